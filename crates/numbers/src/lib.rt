@@ -1,0 +1,85 @@
+// Numbers on the line: two or four bytes, high byte first.
+ghost use mathlib.Core.Path.{_≡_};
+ghost use Prim.Native.Nat.{_+_, _<_};
+ghost use lib.Dec.{leb};
+ghost use Rattle.numbers.specs.Bytes.{numberAt, Put};
+
+// A number that was read, or that the slice ends before the number does.
+pub enum Number {
+    Is(u32),
+    CutShort,
+}
+
+// The byte as a wider number.
+pub fn wide(byte: u8) -> usize
+    ensures { λ r. ⌜ (r ≡ byte) × (r < 256) ⌝ }
+{
+    byte as usize
+}
+
+fn wide_u32(byte: u8) -> u32
+    ensures { λ r. ⌜ (r ≡ byte) × (r < 256) ⌝ }
+{
+    byte as u32
+}
+
+// Whether a field of `width` bytes at `at` lies in a slice of `length` bytes.
+fn has_field(length: usize, at: usize, width: usize) -> bool
+    ensures { λ r. ⌜ r ≡ leb (at + width) length ⌝ }
+{
+    if length < width {
+        return false;
+    }
+    if length - width < at {
+        return false;
+    }
+    true
+}
+
+// The number in the two bytes from `at` on.
+pub fn read_two(s: &[u8], at: usize) -> Number
+    ensures { λ r. ⌜ r ≡ numberAt 2 (now (s .entry)) at ⌝ }
+{
+    if !has_field(s.len(), at, 2) {
+        return Number::CutShort;
+    }
+    Number::Is(wide_u32(s[at]) * 256 + wide_u32(s[at + 1]))
+}
+
+// The number in the four bytes from `at` on.
+pub fn read_four(s: &[u8], at: usize) -> Number
+    ensures { λ r. ⌜ r ≡ numberAt 4 (now (s .entry)) at ⌝ }
+{
+    if !has_field(s.len(), at, 4) {
+        return Number::CutShort;
+    }
+    let high = wide_u32(s[at]) * 256 + wide_u32(s[at + 1]);
+    let low = wide_u32(s[at + 2]) * 256 + wide_u32(s[at + 3]);
+    Number::Is(high * 65536 + low)
+}
+
+// The number's two bytes from `at` on; false where there is no room, and then nothing is written.
+pub fn write_two(buffer: &mut [u8], at: usize, n: u16) -> bool
+    ensures { λ r. ⌜ Put 2 n at (now (buffer .entry)) (now (buffer .exit)) r ⌝ }
+{
+    if !has_field(buffer.len(), at, 2) {
+        return false;
+    }
+    buffer[at] = (n / 256 % 256) as u8;
+    buffer[at + 1] = (n % 256) as u8;
+    true
+}
+
+// The number's four bytes from `at` on; false where there is no room, and then nothing is written.
+pub fn write_four(buffer: &mut [u8], at: usize, n: u32) -> bool
+    ensures { λ r. ⌜ Put 4 n at (now (buffer .entry)) (now (buffer .exit)) r ⌝ }
+{
+    if !has_field(buffer.len(), at, 4) {
+        return false;
+    }
+    buffer[at] = (n / 16777216 % 256) as u8;
+    buffer[at + 1] = (n / 65536 % 256) as u8;
+    buffer[at + 2] = (n / 256 % 256) as u8;
+    buffer[at + 3] = (n % 256) as u8;
+    true
+}
