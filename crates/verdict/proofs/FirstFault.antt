@@ -80,3 +80,13 @@ granted-clear (some a) e = let z : _≡_ {A = ℕ} 0 1 = cc in absurd (omega ari
 pub refused-fault : (f : Option Reason) (a : Reason) → verdictOf f ≡ Refused a → f ≡ some a
 refused-fault none a e = let z : _≡_ {A = ℕ} 0 1 = cc in absurd (omega arith)
 refused-fault (some b) a e = let same : b ≡ a = cc in ap some same
+
+-- two lists of checks, one after the other: the second gives the verdict where the first grants
+module _ (first-checks then-checks : List (Check Reason)) where
+  pub granted-then : verdictOf (firstFault first-checks) ≡ Granted
+      → verdictOf (firstFault (first-checks ++ then-checks)) ≡ verdictOf (firstFault then-checks)
+  granted-then e = ap verdictOf (fault-right first-checks then-checks (granted-clear (firstFault first-checks) e))
+
+  pub refused-then : (reason : Reason) → verdictOf (firstFault first-checks) ≡ Refused reason
+      → verdictOf (firstFault (first-checks ++ then-checks)) ≡ Refused reason
+  refused-then reason e = ap verdictOf (fault-left first-checks then-checks reason (refused-fault (firstFault first-checks) reason e))

@@ -1,48 +1,36 @@
+-- `messages::area_message` meets its contract. The five fields are written one behind the other. Assumes nothing.
 use Rattle.messages.proofs.Laws.{area-written}
 use borrow.Author.Needs.{needs}
 use Rattle.messages.proofs.area_message.Statement.{statement}
 use Rattle.messages.proofs.area_message.Tie as tie
-use Rattle.messages.proofs.area_message.Reads as reads
-use Rattle.messages.proofs.area_message.Lts as lts
-use Rattle.numbers.proofs.write_four.Reads as write-four-reads
 
--- src/lib.rt:13:5
 array-write-bytes : tie.Need-array-write-bytes
 array-write-bytes c = search needs
 
--- src/lib.rt:14:25
 slice-aggregate-write-four : tie.Need-slice-aggregate-write-four
 slice-aggregate-write-four c = search needs
 
--- src/lib.rt:14:5
 write-four-requires : tie.Need-write-four-requires
 write-four-requires c κs = search needs
 
--- src/lib.rt:15:25
 slice-aggregate-write-four-2 : tie.Need-slice-aggregate-write-four-2
 slice-aggregate-write-four-2 c = search needs
 
--- src/lib.rt:15:5
 write-four-requires-2 : tie.Need-write-four-requires-2
 write-four-requires-2 c κs = search needs
 
--- src/lib.rt:16:25
 slice-aggregate-write-four-3 : tie.Need-slice-aggregate-write-four-3
 slice-aggregate-write-four-3 c = search needs
 
--- src/lib.rt:16:5
 write-four-requires-3 : tie.Need-write-four-requires-3
 write-four-requires-3 c κs = search needs
 
--- src/lib.rt:17:25
 slice-aggregate-write-four-4 : tie.Need-slice-aggregate-write-four-4
 slice-aggregate-write-four-4 c = search needs
 
--- src/lib.rt:17:5
 write-four-requires-4 : tie.Need-write-four-requires-4
 write-four-requires-4 c κs = search needs
 
--- src/lib.rt:9:1
 returns : tie.Need-returns
 returns c = area-written (c .before .before .before .before .before .before .before .before .before .before .before .before .args .area) (c .before .before .before .before .before .before .before .before .before .before .write-four .last .0) (c .before .before .before .before .before .before .before .write-four2 .last .0) (c .before .before .before .before .write-four3 .last .0) (c .before .write-four4 .last .0) (c .before .before .before .before .before .before .before .before .before .before .write-four .ensures .leaves) (c .before .before .before .before .before .before .before .write-four2 .ensures .leaves) (c .before .before .before .before .write-four3 .ensures .leaves) (c .before .write-four4 .ensures .leaves)
 

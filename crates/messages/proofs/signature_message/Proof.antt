@@ -1,45 +1,33 @@
+-- `messages::signature_message` meets its contract. The five fields are written one behind the other. Assumes nothing.
 use Rattle.messages.proofs.Laws.{signature-written}
 use borrow.Author.Needs.{needs}
 use Rattle.messages.proofs.signature_message.Statement.{statement}
 use Rattle.messages.proofs.signature_message.Tie as tie
-use Rattle.messages.proofs.signature_message.Reads as reads
-use Rattle.messages.proofs.signature_message.Lts as lts
-use Rattle.numbers.proofs.write_four.Reads as write-four-reads
-use Rattle.numbers.proofs.write_two.Reads as write-two-reads
 
--- src/lib.rt:26:25
 slice-aggregate-write-four : tie.Need-slice-aggregate-write-four
 slice-aggregate-write-four c = search needs
 
--- src/lib.rt:26:5
 write-four-requires : tie.Need-write-four-requires
 write-four-requires c κs = search needs
 
--- src/lib.rt:27:25
 slice-aggregate-write-four-2 : tie.Need-slice-aggregate-write-four-2
 slice-aggregate-write-four-2 c = search needs
 
--- src/lib.rt:27:5
 write-four-requires-2 : tie.Need-write-four-requires-2
 write-four-requires-2 c κs = search needs
 
--- src/lib.rt:28:5
 array-write-bytes : tie.Need-array-write-bytes
 array-write-bytes c = search needs
 
--- src/lib.rt:29:5
 array-write-bytes-2 : tie.Need-array-write-bytes-2
 array-write-bytes-2 c = search needs
 
--- src/lib.rt:30:24
 slice-aggregate-write-two : tie.Need-slice-aggregate-write-two
 slice-aggregate-write-two c = search needs
 
--- src/lib.rt:30:5
 write-two-requires : tie.Need-write-two-requires
 write-two-requires c κs = search needs
 
--- src/lib.rt:22:1
 returns : tie.Need-returns
 returns c = signature-written (c .before .before .before .before .before .before .before .before .before .args .profile) (c .before .before .before .before .before .before .before .write-four .last .0) (c .before .before .before .before .write-four2 .last .0) (c .before .write-two .last .0) (c .before .before .before .before .before .before .before .write-four .ensures .leaves) (c .before .before .before .before .write-four2 .ensures .leaves) (c .before .write-two .ensures .leaves)
 

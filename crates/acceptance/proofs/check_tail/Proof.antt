@@ -1,0 +1,76 @@
+-- `acceptance::check_tail` meets its contract. Each return rewrites the list of checks by the tests that led there. Assumes nothing.
+use mathlib.Core.Path.{sym}
+use borrow.Author.Tests.{eq-eqb, ne-eqb, lt-ltb, le-ltb}
+use borrow.Author.Needs.{needs}
+use Rattle.verdict.specs.Check.{firstFault}
+use Rattle.acceptance.specs.Rules.{tailChecks}
+use Rattle.acceptance.proofs.check_tail.Statement.{statement}
+use Rattle.acceptance.proofs.check_tail.Tie as tie
+
+count-configs-requires : tie.Need-count-configs-requires
+count-configs-requires c κs = search needs
+
+returns : tie.Need-returns
+unfolding firstFault tailChecks
+returns c = simp (sym (c .before .count-configs .ensures), ne-eqb _ _ (c .if1 .taken))
+
+count-small-requires : tie.Need-count-small-requires
+count-small-requires c κs = search needs
+
+returns-2 : tie.Need-returns-2
+unfolding firstFault tailChecks
+returns-2 c = simp (sym (c .before .before .before .count-configs .ensures), eq-eqb _ _ (c .before .before .if1 .left), sym (c .before .count-small .ensures), ne-eqb _ _ (c .if2 .taken))
+
+total-requires : tie.Need-total-requires
+total-requires c κs = search needs
+
+returns-3 : tie.Need-returns-3
+unfolding firstFault tailChecks
+returns-3 c =
+    simp (
+      sym (c .before .before .before .before .before .count-configs .ensures),
+      eq-eqb _ _ (c .before .before .before .before .if1 .left),
+      sym (c .before .before .before .count-small .ensures),
+      eq-eqb _ _ (c .before .before .if2 .left),
+      sym (c .before .total .ensures .0),
+      lt-ltb _ _ (c .if3 .taken),
+    )
+
+returns-4 : tie.Need-returns-4
+unfolding firstFault tailChecks
+returns-4 c =
+    simp (
+      sym (c .before .before .before .before .before .before .before .count-configs .ensures),
+      eq-eqb _ _ (c .before .before .before .before .before .before .if1 .left),
+      sym (c .before .before .before .before .before .count-small .ensures),
+      eq-eqb _ _ (c .before .before .before .before .if2 .left),
+      sym (c .before .before .before .total .ensures .0),
+      le-ltb _ _ (c .before .before .if3 .left),
+      lt-ltb _ _ (c .if4 .taken),
+    )
+
+returns-5 : tie.Need-returns-5
+unfolding firstFault tailChecks
+returns-5 c =
+    simp (
+      sym (c .before .before .before .before .before .before .before .count-configs .ensures),
+      eq-eqb _ _ (c .before .before .before .before .before .before .if1 .left),
+      sym (c .before .before .before .before .before .count-small .ensures),
+      eq-eqb _ _ (c .before .before .before .before .if2 .left),
+      sym (c .before .before .before .total .ensures .0),
+      le-ltb _ _ (c .before .before .if3 .left),
+      le-ltb _ _ (c .if4 .left),
+    )
+
+pub check-tail-spec : {M : Type 1} → statement M
+check-tail-spec =
+    tie.close
+    (tie.spec
+    count-configs-requires
+    returns
+    count-small-requires
+    returns-2
+    total-requires
+    returns-3
+    returns-4
+    returns-5)

@@ -1,0 +1,38 @@
+-- `acceptance::judge` meets its contract. The head decides where it breaks a rule, and else the rest. Assumes nothing.
+use mathlib.Core.Path.{sym, _∙_}
+use mathlib.Core.List.{_++_}
+use borrow.Author.Needs.{needs}
+use Rattle.profile.specs.Areas.{areasOf}
+use Rattle.acceptance.specs.Rules.{headChecks, tableChecks, tailChecks, profileChecks}
+use Rattle.acceptance.proofs.Laws.{goes-on, stops}
+use Rattle.acceptance.proofs.judge.Statement.{statement}
+use Rattle.acceptance.proofs.judge.Tie as tie
+
+check-head-requires : tie.Need-check-head-requires
+check-head-requires c κs = search needs
+
+enum-known-head : tie.Need-enum-known-head
+enum-known-head c = search needs
+
+enum-told : tie.Need-enum-told
+enum-told c = search needs
+
+check-rest-requires : tie.Need-check-rest-requires
+check-rest-requires c κs = search needs
+
+returns : tie.Need-returns
+unfolding profileChecks
+returns c =
+    let p = c .before .before .before .before .args .profile in
+    sym (stops (headChecks p) (tableChecks 0 0 (areasOf p) ++ tailChecks p) _ (sym (c .before .before .before .check-head .ensures) ∙ c .before .head .given .1))
+
+returns-2 : tie.Need-returns-2
+unfolding profileChecks
+returns-2 c =
+    let p = c .before .before .before .before .args .profile in
+    c .check-rest .ensures ∙ sym (goes-on (headChecks p) (tableChecks 0 0 (areasOf p) ++ tailChecks p) (sym (c .before .before .before .check-head .ensures) ∙ c .before .enum-told .given .1))
+
+pub judge-spec : {M : Type 1} → statement M
+judge-spec =
+    tie.close
+    (tie.spec check-head-requires enum-known-head enum-told check-rest-requires returns returns-2)

@@ -1,0 +1,2 @@
+pub mod InArea
+pub mod Ranges
