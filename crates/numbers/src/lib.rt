@@ -11,13 +11,7 @@ pub enum Number {
 }
 
 // The byte as a wider number.
-pub fn wide(byte: u8) -> usize
-    ensures { λ r. ⌜ (r ≡ byte) × (r < 256) ⌝ }
-{
-    byte as usize
-}
-
-fn wide_u32(byte: u8) -> u32
+fn wide(byte: u8) -> u32
     ensures { λ r. ⌜ (r ≡ byte) × (r < 256) ⌝ }
 {
     byte as u32
@@ -43,7 +37,7 @@ pub fn read_two(s: &[u8], at: usize) -> Number
     if !has_field(s.len(), at, 2) {
         return Number::CutShort;
     }
-    Number::Is(wide_u32(s[at]) * 256 + wide_u32(s[at + 1]))
+    Number::Is(wide(s[at]) * 256 + wide(s[at + 1]))
 }
 
 // The number in the four bytes from `at` on.
@@ -53,8 +47,8 @@ pub fn read_four(s: &[u8], at: usize) -> Number
     if !has_field(s.len(), at, 4) {
         return Number::CutShort;
     }
-    let high = wide_u32(s[at]) * 256 + wide_u32(s[at + 1]);
-    let low = wide_u32(s[at + 2]) * 256 + wide_u32(s[at + 3]);
+    let high = wide(s[at]) * 256 + wide(s[at + 1]);
+    let low = wide(s[at + 2]) * 256 + wide(s[at + 3]);
     Number::Is(high * 65536 + low)
 }
 

@@ -14,47 +14,47 @@ has-field-requires c κs = search needs
 returns : tie.Need-returns
 returns c = read-short 4 (c .before .before .before .args .s .now) (c .before .before .before .args .at) (no-room (c .before .before .before .args .at) 4 (length (c .before .before .before .args .s .now)) _ (c .before .has-field .ensures) (c .if1 .taken))
 
-shared-slice-read-wide-u32 : tie.Need-shared-slice-read-wide-u32
-shared-slice-read-wide-u32 c = omega (arith, room (c .before .before .before .before .args .at) 4 (length (c .before .before .before .before .args .s .now)) _ (c .before .before .has-field .ensures) (c .before .if1 .left))
+shared-slice-read-wide : tie.Need-shared-slice-read-wide
+shared-slice-read-wide c = omega (arith, room (c .before .before .before .before .args .at) 4 (length (c .before .before .before .before .args .s .now)) _ (c .before .before .has-field .ensures) (c .before .if1 .left))
 
-wide-u32-requires : tie.Need-wide-u32-requires
-wide-u32-requires c κs = search needs
+wide-requires : tie.Need-wide-requires
+wide-requires c κs = search needs
 
 mul-high : tie.Need-mul-high
 mul-high c = search needs
 
-add-wide-u32 : tie.Need-add-wide-u32
-add-wide-u32 c = omega (arith, room (c .before .before .before .before .before .args .at) 4 (length (c .before .before .before .before .before .args .s .now)) _ (c .before .before .before .has-field .ensures) (c .before .before .if1 .left))
+add-wide : tie.Need-add-wide
+add-wide c = omega (arith, room (c .before .before .before .before .before .args .at) 4 (length (c .before .before .before .before .before .args .s .now)) _ (c .before .before .before .has-field .ensures) (c .before .before .if1 .left))
 
-shared-slice-read-wide-u32-2 : tie.Need-shared-slice-read-wide-u32-2
-shared-slice-read-wide-u32-2 c = omega (arith, room (c .before .before .before .before .before .before .args .at) 4 (length (c .before .before .before .before .before .before .args .s .now)) _ (c .before .before .before .before .has-field .ensures) (c .before .before .before .if1 .left))
+shared-slice-read-wide-2 : tie.Need-shared-slice-read-wide-2
+shared-slice-read-wide-2 c = omega (arith, room (c .before .before .before .before .before .before .args .at) 4 (length (c .before .before .before .before .before .before .args .s .now)) _ (c .before .before .before .before .has-field .ensures) (c .before .before .before .if1 .left))
 
-wide-u32-requires-2 : tie.Need-wide-u32-requires-2
-wide-u32-requires-2 c κs = search needs
+wide-requires-2 : tie.Need-wide-requires-2
+wide-requires-2 c κs = search needs
 
 add-high : tie.Need-add-high
 add-high c = search needs
 
-add-wide-u32-2 : tie.Need-add-wide-u32-2
-add-wide-u32-2 c = omega (arith, room (c .before .before .before .before .before .before .before .args .at) 4 (length (c .before .before .before .before .before .before .before .args .s .now)) _ (c .before .before .before .before .before .has-field .ensures) (c .before .before .before .before .if1 .left))
+add-wide-2 : tie.Need-add-wide-2
+add-wide-2 c = omega (arith, room (c .before .before .before .before .before .before .before .args .at) 4 (length (c .before .before .before .before .before .before .before .args .s .now)) _ (c .before .before .before .before .before .has-field .ensures) (c .before .before .before .before .if1 .left))
 
-shared-slice-read-wide-u32-3 : tie.Need-shared-slice-read-wide-u32-3
-shared-slice-read-wide-u32-3 c = omega (arith, room (c .before .before .before .before .before .before .before .before .args .at) 4 (length (c .before .before .before .before .before .before .before .before .args .s .now)) _ (c .before .before .before .before .before .before .has-field .ensures) (c .before .before .before .before .before .if1 .left))
+shared-slice-read-wide-3 : tie.Need-shared-slice-read-wide-3
+shared-slice-read-wide-3 c = omega (arith, room (c .before .before .before .before .before .before .before .before .args .at) 4 (length (c .before .before .before .before .before .before .before .before .args .s .now)) _ (c .before .before .before .before .before .before .has-field .ensures) (c .before .before .before .before .before .if1 .left))
 
-wide-u32-requires-3 : tie.Need-wide-u32-requires-3
-wide-u32-requires-3 c κs = search needs
+wide-requires-3 : tie.Need-wide-requires-3
+wide-requires-3 c κs = search needs
 
 mul-low : tie.Need-mul-low
 mul-low c = search needs
 
-add-wide-u32-3 : tie.Need-add-wide-u32-3
-add-wide-u32-3 c = omega (arith, room (c .before .before .before .before .before .before .before .before .before .args .at) 4 (length (c .before .before .before .before .before .before .before .before .before .args .s .now)) _ (c .before .before .before .before .before .before .before .has-field .ensures) (c .before .before .before .before .before .before .if1 .left))
+add-wide-3 : tie.Need-add-wide-3
+add-wide-3 c = omega (arith, room (c .before .before .before .before .before .before .before .before .before .args .at) 4 (length (c .before .before .before .before .before .before .before .before .before .args .s .now)) _ (c .before .before .before .before .before .before .before .has-field .ensures) (c .before .before .before .before .before .before .if1 .left))
 
-shared-slice-read-wide-u32-4 : tie.Need-shared-slice-read-wide-u32-4
-shared-slice-read-wide-u32-4 c = omega (arith, room (c .before .before .before .before .before .before .before .before .before .before .args .at) 4 (length (c .before .before .before .before .before .before .before .before .before .before .args .s .now)) _ (c .before .before .before .before .before .before .before .before .has-field .ensures) (c .before .before .before .before .before .before .before .if1 .left))
+shared-slice-read-wide-4 : tie.Need-shared-slice-read-wide-4
+shared-slice-read-wide-4 c = omega (arith, room (c .before .before .before .before .before .before .before .before .before .before .args .at) 4 (length (c .before .before .before .before .before .before .before .before .before .before .args .s .now)) _ (c .before .before .before .before .before .before .before .before .has-field .ensures) (c .before .before .before .before .before .before .before .if1 .left))
 
-wide-u32-requires-4 : tie.Need-wide-u32-requires-4
-wide-u32-requires-4 c κs = search needs
+wide-requires-4 : tie.Need-wide-requires-4
+wide-requires-4 c κs = search needs
 
 add-low : tie.Need-add-low
 add-low c = search needs
@@ -75,20 +75,20 @@ read-four-spec =
     (tie.spec
     has-field-requires
     returns
-    shared-slice-read-wide-u32
-    wide-u32-requires
+    shared-slice-read-wide
+    wide-requires
     mul-high
-    add-wide-u32
-    shared-slice-read-wide-u32-2
-    wide-u32-requires-2
+    add-wide
+    shared-slice-read-wide-2
+    wide-requires-2
     add-high
-    add-wide-u32-2
-    shared-slice-read-wide-u32-3
-    wide-u32-requires-3
+    add-wide-2
+    shared-slice-read-wide-3
+    wide-requires-3
     mul-low
-    add-wide-u32-3
-    shared-slice-read-wide-u32-4
-    wide-u32-requires-4
+    add-wide-3
+    shared-slice-read-wide-4
+    wide-requires-4
     add-low
     mul-t8
     add-t12

@@ -14,23 +14,23 @@ has-field-requires c κs = search needs
 returns : tie.Need-returns
 returns c = read-short 2 (c .before .before .before .args .s .now) (c .before .before .before .args .at) (no-room (c .before .before .before .args .at) 2 (length (c .before .before .before .args .s .now)) _ (c .before .has-field .ensures) (c .if1 .taken))
 
-shared-slice-read-wide-u32 : tie.Need-shared-slice-read-wide-u32
-shared-slice-read-wide-u32 c = omega (arith, room (c .before .before .before .before .args .at) 2 (length (c .before .before .before .before .args .s .now)) _ (c .before .before .has-field .ensures) (c .before .if1 .left))
+shared-slice-read-wide : tie.Need-shared-slice-read-wide
+shared-slice-read-wide c = omega (arith, room (c .before .before .before .before .args .at) 2 (length (c .before .before .before .before .args .s .now)) _ (c .before .before .has-field .ensures) (c .before .if1 .left))
 
-wide-u32-requires : tie.Need-wide-u32-requires
-wide-u32-requires c κs = search needs
+wide-requires : tie.Need-wide-requires
+wide-requires c κs = search needs
 
 mul-t9 : tie.Need-mul-t9
 mul-t9 c = search needs
 
-add-wide-u32 : tie.Need-add-wide-u32
-add-wide-u32 c = omega (arith, room (c .before .before .before .before .before .args .at) 2 (length (c .before .before .before .before .before .args .s .now)) _ (c .before .before .before .has-field .ensures) (c .before .before .if1 .left))
+add-wide : tie.Need-add-wide
+add-wide c = omega (arith, room (c .before .before .before .before .before .args .at) 2 (length (c .before .before .before .before .before .args .s .now)) _ (c .before .before .before .has-field .ensures) (c .before .before .if1 .left))
 
-shared-slice-read-wide-u32-2 : tie.Need-shared-slice-read-wide-u32-2
-shared-slice-read-wide-u32-2 c = omega (arith, room (c .before .before .before .before .before .before .args .at) 2 (length (c .before .before .before .before .before .before .args .s .now)) _ (c .before .before .before .before .has-field .ensures) (c .before .before .before .if1 .left))
+shared-slice-read-wide-2 : tie.Need-shared-slice-read-wide-2
+shared-slice-read-wide-2 c = omega (arith, room (c .before .before .before .before .before .before .args .at) 2 (length (c .before .before .before .before .before .before .args .s .now)) _ (c .before .before .before .before .has-field .ensures) (c .before .before .before .if1 .left))
 
-wide-u32-requires-2 : tie.Need-wide-u32-requires-2
-wide-u32-requires-2 c κs = search needs
+wide-requires-2 : tie.Need-wide-requires-2
+wide-requires-2 c κs = search needs
 
 add-t13 : tie.Need-add-t13
 add-t13 c = search needs
@@ -45,11 +45,11 @@ read-two-spec =
     (tie.spec
     has-field-requires
     returns
-    shared-slice-read-wide-u32
-    wide-u32-requires
+    shared-slice-read-wide
+    wide-requires
     mul-t9
-    add-wide-u32
-    shared-slice-read-wide-u32-2
-    wide-u32-requires-2
+    add-wide
+    shared-slice-read-wide-2
+    wide-requires-2
     add-t13
     returns-2)

@@ -1,0 +1,9 @@
+pub mod Along
+pub mod ByAddress
+pub mod Clip
+pub mod Lists
+pub mod Meets
+pub mod Pour
+pub mod Units
+pub mod Walk
+pub mod Writes

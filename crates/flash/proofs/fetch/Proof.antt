@@ -1,0 +1,56 @@
+-- `flash::fetch` meets its contract. Both answers are read off the place that `locate` finds. Assumes nothing.
+use mathlib.Core.Path.{_∙_, subst}
+use borrow.Author.Needs.{needs}
+use Rattle.profile.specs.declared.Place.the-variants.{In, Nowhere}
+use Rattle.profile.specs.Areas.{areasOf}
+use Rattle.profile.specs.Places.{Bounded}
+use Rattle.flash.specs.Effects.{fetchedAt}
+use Rattle.flash.proofs.Clip.{fetched-as}
+use Rattle.flash.proofs.fetch.Statement.{statement}
+use Rattle.flash.proofs.fetch.Tie as tie
+
+locate-requires : tie.Need-locate-requires
+locate-requires c κs = search needs
+
+enum-told : tie.Need-enum-told
+enum-told c = search needs
+
+sub-result : tie.Need-sub-result
+sub-result c = search needs
+
+part-result-start : tie.Need-part-result-start
+part-result-start c = search needs
+
+part-result-end : tie.Need-part-result-end
+part-result-end c = search needs
+
+enum-known-place : tie.Need-enum-known-place
+enum-known-place c = search needs
+
+fetch-at-requires : tie.Need-fetch-at-requires
+fetch-at-requires c κs = subst (Bounded (c .before .before .before .before .before .args .address)) (c .before .place .given .1) (c .before .before .before .locate .ensures .bounds)
+
+returns : tie.Need-returns
+unfolding fetchedAt
+returns c =
+    let a = c .before .before .before .before .before .args in
+    fetched-as (areasOf (a .profile)) (a .address) (a .count) (a .image .now) (c .before .before .before .locate .result) Nowhere (c .before .before .before .locate .ensures .is) (c .before .enum-told .given .1)
+
+returns-2 : tie.Need-returns-2
+returns-2 c =
+    let a = c .before .before .before .before .before .before .args in
+    c .fetch-at .ensures ∙ fetched-as (areasOf (a .profile)) (a .address) (a .count) (a .image .now) (c .before .before .before .before .locate .result) (In (c .before .before .place .given .0 .0)) (c .before .before .before .before .locate .ensures .is) (c .before .before .place .given .1)
+
+pub fetch-spec : {M : Type 1} → statement M
+fetch-spec =
+    tie.close
+    (tie.spec
+    locate-requires
+    enum-told
+    sub-result
+    part-result-start
+    part-result-end
+    enum-known-place
+    fetch-at-requires
+    returns
+    returns-2)

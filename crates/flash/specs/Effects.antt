@@ -1,0 +1,55 @@
+-- The effects on the flash, by address: device and replay share them, and nothing else changes a byte.
+use mathlib.Core.Bool.{Bool, true, false, _&&_, cond}
+use mathlib.Core.List.{List, [], _∷_, _++_}
+use Prim.Native.Nat.{ℕ, _+_, _-_, min}
+use lib.ListN.{length, take, drop, getD, replicate}
+use lib.Dec.{leb, ltb}
+use Rattle.profile.specs.declared.Area.{Area}
+use Rattle.profile.specs.declared.Place.{Place}
+use Rattle.profile.specs.declared.Place.the-variants.{In, Nowhere}
+use Rattle.profile.specs.Areas.{sizeOf}
+use Rattle.profile.specs.Places.{placeOf, offsetIn}
+
+-- an effect: what becomes of the byte b at address x
+abbrev pub Effect : Type 0
+Effect = ℕ → ℕ → ℕ
+
+-- an effect on bytes that stand at the addresses from x on
+unfoldable pub along : Effect → ℕ → List ℕ → List ℕ
+along f x [] = []
+along f x (b ∷ bs) = f x b ∷ along f (x + 1) bs
+
+-- an effect on the image, the areas' bytes joined in table order
+unfoldable pub changed : Effect → List Area → List ℕ → List ℕ
+changed f [] image = image
+changed f (a ∷ more) image = along f (a .sad) (take (sizeOf a) image) ++ changed f more (drop (sizeOf a) image)
+
+-- the addresses from s up to, not including, e
+abbrev pub between : ℕ → ℕ → ℕ → Bool
+between s e x = leb s x && ltb x e
+
+-- the bytes vs stored from address s on
+unfoldable pub storing : ℕ → List ℕ → Effect
+storing s vs x b = cond (between s (s + length vs) x) (getD vs (x - s) 0xFF) b
+
+-- the addresses s to e, both inclusive, erased
+unfoldable pub erasing : ℕ → ℕ → Effect
+erasing s e x b = cond (between s (e + 1) x) 0xFF b
+
+unfoldable pub stored : List Area → ℕ → List ℕ → List ℕ → List ℕ
+stored areas s vs image = changed (storing s vs) areas image
+
+unfoldable pub erased : List Area → ℕ → ℕ → List ℕ → List ℕ
+erased areas s e image = changed (erasing s e) areas image
+
+-- total erase
+unfoldable pub blanked : List ℕ → List ℕ
+blanked image = replicate (length image) 0xFF
+
+-- up to n bytes from address x on, as far as its area and the image go
+unfoldable pub fetchedAt : Place → ℕ → ℕ → List ℕ → List ℕ
+fetchedAt Nowhere x n image = []
+fetchedAt (In spot) x n image = take (min n (spot .area .ead + 1 - x)) (drop (offsetIn spot x) image)
+
+unfoldable pub fetched : List Area → ℕ → ℕ → List ℕ → List ℕ
+fetched areas x n image = fetchedAt (placeOf areas x) x n image

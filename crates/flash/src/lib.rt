@@ -1,0 +1,194 @@
+// The effects on the image that a caller lends: each byte goes where its address lies, and no other byte changes.
+ghost use mathlib.Core.Path.{_≡_};
+ghost use Prim.Native.Nat.{_+_, _-_, _≤_, min};
+ghost use lib.ListN.{length, replicate};
+ghost use Rattle.profile.specs.Areas.{areasOf};
+ghost use Rattle.profile.specs.declared.Place.the-variants.{In};
+ghost use Rattle.flash.specs.Effects.{erased, stored, blanked, fetched, fetchedAt};
+ghost use Rattle.flash.specs.Blank.{searched};
+ghost use Rattle.flash.specs.Meets.{bytesBelow, Meets};
+use profile::Area;
+use profile::Place;
+use profile::Profile;
+use profile::Spot;
+
+// What looking for the first unit that is not blank finds.
+pub enum Search {
+    // all bytes are FFh
+    Clean,
+    // the number of the first unit that holds another byte
+    Dirty(usize),
+}
+
+// A part of the image, by places in it.
+struct Part {
+    from: usize,
+    // not included
+    to: usize,
+}
+
+// Every byte FFh.
+fn fill(part: &mut [u8])
+    ensures { λ _. ⌜ now (part .exit) ≡ replicate (length (now (part .entry))) 0xFF ⌝ }
+{
+    let mut i = 0;
+    while i < part.len() {
+        part[i] = 0xFF;
+        i += 1;
+    }
+}
+
+// The bytes of `from`, which are as many.
+fn copy(part: &mut [u8], from: &[u8])
+    requires { ⌜ length (now part) ≡ length (now from) ⌝ }
+    ensures { λ _. ⌜ now (part .exit) ≡ now (from .entry) ⌝ }
+{
+    let mut i = 0;
+    while i < from.len() {
+        part[i] = from[i];
+        i += 1;
+    }
+}
+
+// Total erase.
+pub fn erase_all(image: &mut [u8])
+    ensures { λ _. ⌜ now (image .exit) ≡ blanked (now (image .entry)) ⌝ }
+{
+    fill(image);
+}
+
+// The smaller of the two.
+fn lower(a: usize, b: usize) -> usize
+    ensures { λ r. ⌜ r ≡ min a b ⌝ }
+{
+    if a < b { a } else { b }
+}
+
+// How far `a` lies above `b`; 0 where it does not.
+fn above(a: usize, b: usize) -> usize
+    ensures { λ r. ⌜ r ≡ a - b ⌝ }
+{
+    if b < a { a - b } else { 0 }
+}
+
+// Where the bytes of the area below an address end, in an image of `length` bytes; `base` is the place of the area's first byte.
+fn border(area: Area, base: usize, length: usize, address: usize) -> usize
+    requires { ⌜ base ≤ 34359738368 ⌝ }
+    ensures { λ r. ⌜ r ≡ min (base + bytesBelow area address) length ⌝ }
+{
+    let below = lower(address, area.ead as usize + 1);
+    lower(base + above(below, area.sad as usize), length)
+}
+
+// The part that holds the addresses from `first` up to, not including, `behind`, of those that the area has.
+fn overlap(area: Area, base: usize, length: usize, first: usize, behind: usize) -> Part
+    requires { ⌜ base ≤ 34359738368 ⌝ }
+    ensures { λ r. ⌜ Meets area base length first behind (r .from) (r .to) ⌝ }
+{
+    let to = border(area, base, length, behind);
+    let from = lower(border(area, base, length, first), to);
+    Part { from, to }
+}
+
+// The addresses SAD to EAD, both inclusive, become FFh.
+pub fn erase(image: &mut [u8], profile: Profile, sad: u32, ead: u32)
+    ensures { λ _. ⌜ now (image .exit) ≡ erased (areasOf profile) sad ead (now (image .entry)) ⌝ }
+{
+    let used = profile::used(profile.noa);
+    let first = sad as usize;
+    let behind = ead as usize + 1;
+    let mut base: usize = 0;
+    let mut i = 0;
+    while i < used {
+        let area = profile.areas[i];
+        let part = overlap(area, base, image.len(), first, behind);
+        let from = part.from;
+        let to = part.to;
+        fill(&mut image[from..to]);
+        base += profile::size(area);
+        i += 1;
+    }
+}
+
+// The bytes go to the addresses from `address` on.
+pub fn store(image: &mut [u8], profile: Profile, address: u32, bytes: &[u8])
+    ensures { λ _. ⌜ now (image .exit) ≡ stored (areasOf profile) address (now (bytes .entry)) (now (image .entry)) ⌝ }
+{
+    let n = profile::used(profile.noa);
+    let start = address as usize;
+    let end = start + bytes.len();
+    let mut base = 0;
+    let mut i = 0;
+    while i < n {
+        let area = profile.areas[i];
+        let part = overlap(area, base, image.len(), start, end);
+        let from = part.from;
+        let to = part.to;
+        // so many bytes belong to addresses below the area
+        let skipped = lower(above(area.sad as usize, start), bytes.len());
+        let last = skipped + (to - from);
+        copy(&mut image[from..to], &bytes[skipped..last]);
+        base += profile::size(area);
+        i += 1;
+    }
+}
+
+// Up to `count` bytes from an address of a spot's area on, as far as the area and the image go.
+fn fetch_at(image: &[u8], spot: Spot, address: u32, count: usize) -> &[u8]
+    requires { ⌜ (spot .area .sad ≤ address) × (address ≤ spot .area .ead) × (spot .base ≤ 34359738368) ⌝ }
+    ensures { λ r. ⌜ now r ≡ fetchedAt (In spot) address count (now (image .entry)) ⌝ }
+{
+    let area = spot.area;
+    let offset = (address - area.sad) as usize;
+    let left = (area.ead - address) as usize + 1;
+    let from = lower(spot.base + offset, image.len());
+    let to = from + lower(lower(count, left), image.len() - from);
+    &image[from..to]
+}
+
+// Up to `count` bytes from an address on, as far as its area goes: a part of the image.
+pub fn fetch(image: &[u8], profile: Profile, address: u32, count: usize) -> &[u8]
+    ensures { λ r. ⌜ now r ≡ fetched (areasOf profile) address count (now (image .entry)) ⌝ }
+{
+    let place = profile::locate(profile, address);
+    match place {
+        Place::Nowhere => &image[0..0],
+        Place::In(spot) => fetch_at(image, spot, address, count),
+    }
+}
+
+// The end of the unit at `at`: the last one may be short.
+fn unit_end(at: usize, step: usize, length: usize) -> usize
+    requires { ⌜ at ≤ length ⌝ }
+    ensures { λ r. ⌜ r ≡ min (at + step) length ⌝ }
+{
+    if step < length - at {
+        at + step
+    } else {
+        length
+    }
+}
+
+// The first unit that holds a byte other than FFh. The search stops there.
+pub fn first_dirty(target: &[u8], unit: usize) -> Search
+    ensures { λ r. ⌜ r ≡ searched unit (now (target .entry)) ⌝ }
+{
+    let step = if unit == 0 { 1 } else { unit };
+    let mut found = Search::Clean;
+    let mut number = 0;
+    let mut at = 0;
+    'units: while at < target.len() {
+        let end = unit_end(at, step, target.len());
+        let mut k = at;
+        while k < end {
+            if target[k] != 0xFF {
+                found = Search::Dirty(number);
+                break 'units;
+            }
+            k += 1;
+        }
+        number += 1;
+        at = end;
+    }
+    found
+}

@@ -1,0 +1,45 @@
+-- The payload as a part of the receive buffer. Assumes nothing.
+use mathlib.Core.Bool.{true, false}
+use mathlib.Core.List.{List, [], _∷_}
+use mathlib.Core.Path.{_≡_, refl, sym, _∙_}
+use Prim.Native.Nat.{ℕ, zero, suc, _+_, _-_, _<_, _≤_}
+use native.Mathlib.Omega.{arith}
+use lib.ListN.{length, take, drop}
+use lib.Seq.{take-take, length-take-le}
+use borrow.Author.Tests.{le-leb, lt-leb}
+use Rattle.packet.specs.Packet.{lengthOf, good, payloadOf}
+use Rattle.packet.proofs.Laws.{permitted-least}
+use Rattle.packet.proofs.Gathering.{good-is}
+
+-- a part that ends within the first n is a part of the whole
+part-of-front : (at m n : ℕ) (l : List ℕ) → at + m ≤ n → take m (drop at (take n l)) ≡ take m (drop at l)
+part-of-front zero m n l h = take-take m n l (omega arith)
+part-of-front (suc at) m zero l h = absurd (omega arith)
+part-of-front (suc at) m (suc n) [] h = refl
+part-of-front (suc at) m (suc n) (x ∷ l) h = part-of-front at m n l (omega arith)
+
+module _ (receive : List ℕ) (n : ℕ) where
+  -- no such packet: the bytes are not there, or are not good
+  pub payload-short : length receive < n → [] ≡ payloadOf receive n
+  unfolding payloadOf
+  payload-short h = simp (lt-leb _ _ h)
+
+  pub payload-none : n ≤ length receive → good (take n receive) ≡ false → [] ≡ payloadOf receive n
+  unfolding payloadOf
+  payload-none h g = simp (le-leb _ _ h, g)
+
+  module _ (h : n ≤ length receive) (g : good (take n receive) ≡ true) where
+    counted : n ≡ lengthOf (take n receive) + 5
+    counted = sym (length-take-le n receive h) ∙ good-is (take n receive) g .is .count
+
+    -- start byte, length bytes, COM or RES, SUM and ETX
+    pub payload-room : 6 ≤ n
+    payload-room =
+        let i = good-is (take n receive) g in
+        omega (arith, counted, permitted-least (i .kind) (lengthOf (take n receive)) (i .is .permits))
+
+    pub payload-part : take (n - 2 - 3) (drop 3 receive) ≡ payloadOf receive n
+    unfolding payloadOf
+    payload-part =
+        let k : n - 2 - 3 ≡ lengthOf (take n receive) = omega (arith, counted) in
+        simp (le-leb _ _ h, g, k) (sym (part-of-front 3 (lengthOf (take n receive)) n receive (omega (arith, counted))))

@@ -1,0 +1,4 @@
+pub mod Contents
+pub mod Frames
+pub mod Gathering
+pub mod Laws

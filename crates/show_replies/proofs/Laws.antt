@@ -1,0 +1,21 @@
+-- A part of a buffer that an answer says the length of. Assumes nothing.
+use mathlib.Core.List.{List}
+use mathlib.Core.Path.{_≡_}
+use Prim.Native.Nat.{ℕ, _≤_}
+use native.Mathlib.Omega.{arith}
+use lib.ListN.{length, take}
+use lib.Seq.{length-take-le}
+use Rattle.reply.specs.Reply.{Placed}
+use Rattle.reply.proofs.Replies.{answer-within}
+
+module _ (contents before after : List ℕ) (r : ℕ) (k : length after ≡ length before) (p : Placed contents before after r) where
+  -- the reply lies within the buffer
+  pub within : r ≤ length after
+  within = let h : r ≤ length before = answer-within contents before after r p in omega arith
+
+  -- and its part has its length
+  pub part-length : length (take r after) ≡ r
+  part-length = length-take-le r after within
+
+  pub part-fits : (n : ℕ) → length before ≤ n → length (take r after) ≤ n
+  part-fits n h = let e : length (take r after) ≡ r = part-length in let w : r ≤ length after = within in omega arith

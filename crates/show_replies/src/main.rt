@@ -1,0 +1,151 @@
+// Prints status, data and area replies, each packet in hex on a line of its own, under a heading line for each RES.
+ghost use Prim.Native.Nat.{_+_, _*_, _≤_};
+ghost use lib.ListN.{length};
+use profile::Area;
+use verdict::Reason;
+use verdict::Verdict;
+
+// The low half of a byte as a hex digit.
+fn digit(byte: u8) -> u8 {
+    let half = byte % 16;
+    if half < 10 {
+        return b'0' + half;
+    }
+    b'A' + (half - 10)
+}
+
+// One byte of a packet in hex, and a space.
+fn put_byte(line: &mut [u8], at: usize, byte: u8)
+    requires { ⌜ at + 3 ≤ length (now line) ⌝ }
+{
+    line[at] = digit(byte / 16);
+    line[at + 1] = digit(byte);
+    line[at + 2] = b' ';
+}
+
+// The packet in hex, with a line end in place of the last space: how long the text is.
+fn put_line(line: &mut [u8], packet: &[u8]) -> usize
+    requires { ⌜ 3 * length (now packet) ≤ length (now line) ⌝ }
+    ensures { λ r. ⌜ r ≤ length (now (line .entry)) ⌝ }
+{
+    let mut i = 0;
+    while i < packet.len() {
+        put_byte(line, 3 * i, packet[i]);
+        i += 1;
+    }
+    let end = 3 * i;
+    if 0 < end {
+        line[end - 1] = b'\n';
+    }
+    end
+}
+
+fn print_packet(packet: &[u8])
+    requires { ⌜ length (now packet) ≤ 23 ⌝ }
+{
+    let mut line = [0u8; 69];
+    let n = put_line(&mut line, packet);
+    io::write_all(1, &line[..n]);
+}
+
+fn print_heading(res: u8) {
+    let line = [b'R', b'E', b'S', b' ', digit(res / 16), digit(res), b'\n'];
+    io::write_all(1, &line);
+}
+
+fn print_status(request: u8, verdict: Verdict) {
+    let mut buffer = [0u8; 7];
+    let n = reply::put_status(&mut buffer, request, verdict);
+    print_packet(&buffer[..n]);
+}
+
+fn print_data(res: u8, bytes: &[u8]) {
+    let mut buffer = [0u8; 23];
+    let n = reply::put_data(&mut buffer, res, bytes);
+    print_packet(&buffer[..n]);
+}
+
+// The longest data packet: its length, its first four bytes and its last two.
+fn print_longest(res: u8) {
+    let bytes = [0xFFu8; 1024];
+    let mut buffer = [0u8; 1030];
+    let n = reply::put_data(&mut buffer, res, &bytes);
+    io::print_decimal(1, n as u64);
+    io::write_all(1, b" bytes, the first four and the last two:\n");
+    print_packet(&buffer[..4]);
+    print_packet(&buffer[1028..]);
+}
+
+fn print_granted(request: u8) {
+    print_heading(reply::res(request, Verdict::Granted));
+    print_status(request, Verdict::Granted);
+}
+
+// One reason for each code.
+fn print_refused(request: u8) {
+    print_heading(reply::res(request, Verdict::Refused(Reason::UnknownCommand)));
+    print_status(request, Verdict::Refused(Reason::UnknownCommand));
+    print_status(request, Verdict::Refused(Reason::WrongEtx));
+    print_status(request, Verdict::Refused(Reason::WrongSum));
+    print_status(request, Verdict::Refused(Reason::WrongStage));
+    print_status(request, Verdict::Refused(Reason::Reversed));
+    print_status(request, Verdict::Refused(Reason::RateOff));
+    print_status(request, Verdict::Refused(Reason::BelowWindow));
+    print_status(request, Verdict::Refused(Reason::OtherId));
+    print_status(request, Verdict::Refused(Reason::Locked));
+    print_status(request, Verdict::Refused(Reason::DirtyFlash));
+}
+
+// Replies that carry data: what was read, and two signatures.
+fn print_data_replies() {
+    print_heading(0x15);
+    print_data(0x15, b"\xFF");
+    print_longest(0x15);
+    print_heading(0x3A);
+    print_data(0x3A, b"\x03\x93\x87\x00\x00\x3D\x09\x00\x02\x01\x01\x00");
+    print_data(0x3A, b"\x01\x31\x2D\x00\x00\x1E\x84\x80\x04\x02\x0A\x08");
+}
+
+// An area reply.
+fn print_area(koa: u8, sad: u32, ead: u32, eau: u32, wau: u32) {
+    let area = Area {
+        koa,
+        sad,
+        ead,
+        eau,
+        wau,
+    };
+    let bytes = messages::area_message(area);
+    print_data(0x3B, &bytes);
+}
+
+// The areas of source 001, of source 000 (its example and its table), and of the bench profile.
+fn print_areas() {
+    print_heading(0x3B);
+    print_area(0, 0x10000, 0x1FFFFF, 0x8000, 0x100);
+    print_area(0, 0x10000, 0x1FFFFF, 0x800, 8);
+    print_area(0, 0, 0x1FFFF, 0x800, 8);
+    print_area(1, 0x40100000, 0x40100FFF, 0x400, 1);
+    print_area(2, 0x01010008, 0x01010033, 0, 4);
+    print_area(0, 0, 0xFFFF, 0x2000, 0x80);
+    print_area(2, 0x01000000, 0x010000FF, 0, 0x10);
+}
+
+fn main() {
+    print_granted(0x00);
+    print_granted(0x12);
+    print_granted(0x13);
+    print_granted(0x15);
+    print_granted(0x30);
+    print_granted(0x34);
+    print_data_replies();
+    print_areas();
+    print_refused(0x00);
+    print_refused(0x12);
+    print_refused(0x13);
+    print_refused(0x15);
+    print_refused(0x30);
+    print_refused(0x34);
+    print_refused(0x3A);
+    print_refused(0x3B);
+}
