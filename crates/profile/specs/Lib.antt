@@ -1,2 +1,3 @@
 pub mod Areas
+pub mod Bench
 pub mod Places
