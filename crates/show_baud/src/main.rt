@@ -1,5 +1,4 @@
 // Prints the line setting of the known baud rates, and whether each is refused.
-ghost use Prim.Native.Nat.{_<_};
 use verdict::Verdict;
 
 // Source 001: tables 23 and 24.
@@ -39,16 +38,11 @@ const EDGES: [u32; 11] = [
 // Rates at which M would differ if it were rounded more than once.
 const DIVIDED_ONCE: [u32; 3] = [4034, 4177, 4549];
 
-// A hexadecimal digit, in capitals.
-fn digit(value: u8) -> u8
-    requires { ⌜ value < 16 ⌝ }
-{
-    if value < 10 { 48 + value } else { 55 + value }
-}
-
+// A space, and a byte in hex.
 fn print_byte(value: u8) {
-    let text = [b' ', digit(value / 16), digit(value % 16)];
-    io::write_all(1, &text);
+    io::write_all(1, b" ");
+    let pair = text::hex(value);
+    io::write_all(1, &pair);
 }
 
 fn print_number(value: u32) {

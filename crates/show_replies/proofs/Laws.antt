@@ -16,6 +16,3 @@ module _ (contents before after : List ℕ) (r : ℕ) (k : length after ≡ leng
   -- and its part has its length
   pub part-length : length (take r after) ≡ r
   part-length = length-take-le r after within
-
-  pub part-fits : (n : ℕ) → length before ≤ n → length (take r after) ≤ n
-  part-fits n h = let e : length (take r after) ≡ r = part-length in let w : r ≤ length after = within in omega arith

@@ -1,56 +1,25 @@
 // Prints status, data and area replies, each packet in hex on a line of its own, under a heading line for each RES.
-ghost use Prim.Native.Nat.{_+_, _*_, _≤_};
-ghost use lib.ListN.{length};
 use profile::Area;
 use verdict::Reason;
 use verdict::Verdict;
 
-// The low half of a byte as a hex digit.
-fn digit(byte: u8) -> u8 {
-    let half = byte % 16;
-    if half < 10 {
-        return b'0' + half;
+// A packet in hex, on a line of its own.
+fn print_packet(packet: &[u8]) {
+    for i in 0..packet.len() {
+        if 0 < i {
+            io::write_all(1, b" ");
+        }
+        let pair = text::hex(packet[i]);
+        io::write_all(1, &pair);
     }
-    b'A' + (half - 10)
-}
-
-// One byte of a packet in hex, and a space.
-fn put_byte(line: &mut [u8], at: usize, byte: u8)
-    requires { ⌜ at + 3 ≤ length (now line) ⌝ }
-{
-    line[at] = digit(byte / 16);
-    line[at + 1] = digit(byte);
-    line[at + 2] = b' ';
-}
-
-// The packet in hex, with a line end in place of the last space: how long the text is.
-fn put_line(line: &mut [u8], packet: &[u8]) -> usize
-    requires { ⌜ 3 * length (now packet) ≤ length (now line) ⌝ }
-    ensures { λ r. ⌜ r ≤ length (now (line .entry)) ⌝ }
-{
-    let mut i = 0;
-    while i < packet.len() {
-        put_byte(line, 3 * i, packet[i]);
-        i += 1;
-    }
-    let end = 3 * i;
-    if 0 < end {
-        line[end - 1] = b'\n';
-    }
-    end
-}
-
-fn print_packet(packet: &[u8])
-    requires { ⌜ length (now packet) ≤ 23 ⌝ }
-{
-    let mut line = [0u8; 69];
-    let n = put_line(&mut line, packet);
-    io::write_all(1, &line[..n]);
+    io::write_all(1, b"\n");
 }
 
 fn print_heading(res: u8) {
-    let line = [b'R', b'E', b'S', b' ', digit(res / 16), digit(res), b'\n'];
-    io::write_all(1, &line);
+    io::write_all(1, b"RES ");
+    let pair = text::hex(res);
+    io::write_all(1, &pair);
+    io::write_all(1, b"\n");
 }
 
 fn print_status(request: u8, verdict: Verdict) {

@@ -1,36 +1,72 @@
--- `show_replies::print_packet` is safe. The text lies within the line. Assumes nothing.
-use mathlib.Core.Path.{sym}
-use native.Mathlib.Omega.{arith}
-use lib.Seq.{length-take-le}
+-- `show_replies::print_packet` is safe. The loop's end is the packet's length. Assumes nothing.
+use mathlib.Core.Path.{_≡_}
+use Prim.Native.Nat.{_-_}
+use lib.ListN.{length}
 use borrow.Author.Needs.{needs}
 use Rattle.show_replies.proofs.print_packet.Statement.{statement}
 use Rattle.show_replies.proofs.print_packet.Tie as tie
 
-slice-aggregate-put-line : tie.Need-slice-aggregate-put-line
-slice-aggregate-put-line c = search needs
+abbrev Inv-loop : tie.InvT-loop
+Inv-loop packet i₀ t4 t5 i-end i = (i-end ≡ length packet) × (length t4 ≡ 1) × (length t5 ≡ 1)
 
-put-line-requires : tie.Need-put-line-requires
-put-line-requires c κs = search needs
+abbrev μ-loop : tie.MeasureT-loop
+μ-loop packet i₀ t4 t5 i-end i = i-end - i
 
-array-share-prefix-line : tie.Need-array-share-prefix-line
-array-share-prefix-line c = search needs
+loop-holds : tie.Need-loop-holds Inv-loop μ-loop
+loop-holds c = search needs
 
-slice-aggregate-write-all : tie.Need-slice-aggregate-write-all
-slice-aggregate-write-all c = sym (length-take-le (c .before .before .put-line .result) (c .before .before .put-line .last .0) (omega arith))
+slice-aggregate-write-all : tie.Need-slice-aggregate-write-all Inv-loop μ-loop
+slice-aggregate-write-all c = search needs
 
-write-all-requires : tie.Need-write-all-requires
+write-all-requires : tie.Need-write-all-requires Inv-loop μ-loop
 write-all-requires c κs = search needs
 
-returns : tie.Need-returns
+shared-slice-read-hex : tie.Need-shared-slice-read-hex Inv-loop μ-loop
+shared-slice-read-hex c = search needs
+
+hex-requires : tie.Need-hex-requires Inv-loop μ-loop
+hex-requires c κs = search needs
+
+slice-aggregate-write-all-2 : tie.Need-slice-aggregate-write-all-2 Inv-loop μ-loop
+slice-aggregate-write-all-2 c = search needs
+
+write-all-requires-2 : tie.Need-write-all-requires-2 Inv-loop μ-loop
+write-all-requires-2 c κs = search needs
+
+add-i : tie.Need-add-i Inv-loop μ-loop
+add-i c = search needs
+
+loop-less : tie.Need-loop-less Inv-loop μ-loop
+loop-less c = search needs
+
+loop-again : tie.Need-loop-again Inv-loop μ-loop
+loop-again c = search needs
+
+slice-aggregate-write-all-3 : tie.Need-slice-aggregate-write-all-3 Inv-loop μ-loop
+slice-aggregate-write-all-3 c = search needs
+
+write-all-requires-3 : tie.Need-write-all-requires-3 Inv-loop μ-loop
+write-all-requires-3 c κs = search needs
+
+returns : tie.Need-returns Inv-loop μ-loop
 returns c = search needs
 
 pub print-packet-spec : {M : Type 1} → statement M
 print-packet-spec =
     tie.close
     (tie.spec
-    slice-aggregate-put-line
-    put-line-requires
-    array-share-prefix-line
+    Inv-loop
+    μ-loop
+    loop-holds
     slice-aggregate-write-all
     write-all-requires
+    shared-slice-read-hex
+    hex-requires
+    slice-aggregate-write-all-2
+    write-all-requires-2
+    add-i
+    loop-less
+    loop-again
+    slice-aggregate-write-all-3
+    write-all-requires-3
     returns)

@@ -1,8 +1,7 @@
 -- `show_replies::print_status` is safe. The reply lies within the buffer. Assumes nothing.
 use mathlib.Core.Path.{sym}
-use native.Mathlib.Omega.{arith}
 use borrow.Author.Needs.{needs}
-use Rattle.show_replies.proofs.Laws.{within, part-length, part-fits}
+use Rattle.show_replies.proofs.Laws.{within, part-length}
 use Rattle.show_replies.proofs.print_status.Statement.{statement}
 use Rattle.show_replies.proofs.print_status.Tie as tie
 
@@ -19,7 +18,7 @@ slice-aggregate-print-packet : tie.Need-slice-aggregate-print-packet
 slice-aggregate-print-packet c = sym (part-length _ _ _ _ (c .before .before .put-status .kept .0) (c .before .before .put-status .ensures))
 
 print-packet-requires : tie.Need-print-packet-requires
-print-packet-requires c κs = part-fits _ _ _ _ (c .before .before .put-status .kept .0) (c .before .before .put-status .ensures) 23 (omega arith)
+print-packet-requires c κs = search needs
 
 returns : tie.Need-returns
 returns c = search needs
