@@ -1,0 +1,5 @@
+pub mod Sending
+pub mod Reading
+pub mod Writing
+pub mod Spans
+pub mod Granting

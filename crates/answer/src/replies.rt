@@ -1,0 +1,43 @@
+// A reply at the front of the reply buffer, with the state that follows it.
+ghost use mathlib.Core.Path.{_≡_};
+ghost use Prim.Native.Nat.{_≤_};
+ghost use lib.ListN.{length};
+ghost use Rattle.reply.specs.Reply.{statusReply, dataReply};
+ghost use Rattle.answer.specs.Answer.{moved};
+ghost use Rattle.answer.specs.Post.{Sent};
+use crate::Answered;
+use protocol::Stage;
+use protocol::State;
+use verdict::Verdict;
+
+// The state in a stage, with nothing held.
+pub fn in_stage(state: State, stage: Stage) -> State
+    ensures { λ r. ⌜ r ≡ moved stage state ⌝ }
+{
+    let id = state.id;
+    let line = state.line;
+    State {
+        stage,
+        id,
+        line,
+        held: 0,
+    }
+}
+
+// A status reply to a request with this COM or RES.
+pub fn tell(reply: &mut [u8], state: State, request: u8, verdict: Verdict) -> Answered
+    requires { ⌜ 1030 ≤ length (now reply) ⌝ }
+    ensures { λ r. ⌜ Sent (statusReply request verdict) state r (now (reply .entry)) (now (reply .exit)) ⌝ }
+{
+    let count = reply::put_status(reply, request, verdict);
+    Answered { state, count }
+}
+
+// A data reply.
+pub(crate) fn send(reply: &mut [u8], state: State, res: u8, bytes: &[u8]) -> Answered
+    requires { ⌜ (1030 ≤ length (now reply)) × (length (now bytes) ≤ 1024) ⌝ }
+    ensures { λ r. ⌜ Sent (dataReply res (now (bytes .entry))) state r (now (reply .entry)) (now (reply .exit)) ⌝ }
+{
+    let count = reply::put_data(reply, res, bytes);
+    Answered { state, count }
+}

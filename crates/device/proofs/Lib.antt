@@ -1,0 +1,12 @@
+pub mod Decided
+pub mod Delivered
+pub mod Examples
+pub mod Going
+pub mod Kept
+pub mod Replies
+pub mod Rows
+pub mod Settles
+pub mod Steps
+pub mod Turns
+pub mod Unique
+pub mod Woken

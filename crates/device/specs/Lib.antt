@@ -1,0 +1,8 @@
+pub mod Wake
+pub mod Step
+pub mod Listen
+pub mod Feed
+pub mod Records
+pub mod Fits
+pub mod Calls
+pub mod Post

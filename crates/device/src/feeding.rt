@@ -1,0 +1,218 @@
+// A delivery, byte by byte.
+ghost use mathlib.Core.Path.{_≡_};
+ghost use Prim.Native.Nat.{_≤_};
+ghost use lib.ListN.{length};
+ghost use Rattle.acceptance.specs.Rules.{Accepted as AcceptedProfile};
+ghost use Rattle.verdict.specs.declared.Reason.the-variants.{LengthRefused};
+ghost use Rattle.verdict.specs.declared.Verdict.the-variants.{Refused};
+ghost use Rattle.reply.specs.Reply.{statusReply};
+ghost use Rattle.answer.specs.Answer.{moved};
+ghost use Rattle.answer.specs.Post.{Left, Sent};
+ghost use Rattle.device.specs.Step.{machineOf, earlyCode, endOf, stepOf};
+ghost use Rattle.device.specs.Listen.{kindOf, answerOf, Listening, RangeIn, held};
+ghost use Rattle.device.specs.Feed.{feedOf};
+ghost use Rattle.device.specs.Post.{Ran, Ready, Stood};
+use crate::Fed;
+use crate::Refusal;
+use crate::Stepped;
+use crate::waking::wake;
+use answer::Answered;
+use packet::Kind;
+use packet::Progress;
+use profile::Profile;
+use protocol::Stage;
+use protocol::State;
+use verdict::Reason;
+use verdict::Verdict;
+
+// The kind of packet that a stage awaits; setting awaits none.
+fn awaited(stage: Stage) -> Kind
+    ensures { λ r. ⌜ r ≡ kindOf stage ⌝ }
+{
+    match stage {
+        Stage::Setting(_) => Kind::Command,
+        Stage::Authentication => Kind::Command,
+        Stage::Command => Kind::Command,
+        Stage::Writing(_) => Kind::Data,
+        Stage::Reading(_) => Kind::Data,
+    }
+}
+
+// The state with this many bytes held.
+fn holding(state: State, count: usize) -> State
+    ensures { λ r. ⌜ r ≡ held count state ⌝ }
+{
+    let stage = state.stage;
+    let id = state.id;
+    let line = state.line;
+    State {
+        stage,
+        id,
+        line,
+        held: count,
+    }
+}
+
+// COM or RES of an early refusal.
+fn early_code(stage: Stage) -> u8
+    ensures { λ r. ⌜ r ≡ earlyCode stage ⌝ }
+{
+    match stage {
+        Stage::Setting(_) => 0x00,
+        Stage::Authentication => 0x00,
+        Stage::Command => 0x00,
+        Stage::Writing(_) => 0x13,
+        Stage::Reading(_) => 0x15,
+    }
+}
+
+// The stage that it leads to: a transfer ends.
+fn end_of(stage: Stage) -> Stage
+    ensures { λ r. ⌜ r ≡ endOf stage ⌝ }
+{
+    match stage {
+        Stage::Setting(_) => stage,
+        Stage::Authentication => stage,
+        Stage::Command => stage,
+        Stage::Writing(_) => Stage::Command,
+        Stage::Reading(_) => Stage::Command,
+    }
+}
+
+// A length outside its range: refused behind the second length byte.
+fn refuse_early(state: State, reply: &mut [u8]) -> Answered
+    requires { ⌜ 1030 ≤ length (now reply) ⌝ }
+    ensures { λ r. ⌜ Sent (statusReply (earlyCode (state .stage)) (Refused LengthRefused)) (moved (endOf (state .stage)) state) r (now (reply .entry)) (now (reply .exit)) ⌝ }
+{
+    let stage = state.stage;
+    let code = early_code(stage);
+    let next = answer::in_stage(state, end_of(stage));
+    answer::tell(reply, next, code, Verdict::Refused(Reason::LengthRefused))
+}
+
+// A complete packet.
+fn complete(
+    profile: Profile,
+    image: &mut [u8],
+    state: State,
+    packet: &[u8],
+    reply: &mut [u8],
+) -> Answered
+    requires { ⌜ AcceptedProfile profile × RangeIn (state .stage) × (1030 ≤ length (now reply)) ⌝ }
+    ensures { λ r. ⌜ Left (answerOf profile (now (image .entry)) state (state .stage) (now (packet .entry))) r (now (image .exit)) (now (reply .entry)) (now (reply .exit)) ⌝ }
+{
+    let stage = state.stage;
+    match stage {
+        Stage::Setting(_) => answer::answer_command(profile, image, state, packet, reply),
+        Stage::Authentication => answer::answer_command(profile, image, state, packet, reply),
+        Stage::Command => answer::answer_command(profile, image, state, packet, reply),
+        Stage::Writing(range) => answer::answer_write(profile, image, state, range, packet, reply),
+        Stage::Reading(range) => answer::answer_next(profile, image, state, range, packet, reply),
+    }
+}
+
+// A byte outside setting.
+fn listen(
+    profile: Profile,
+    image: &mut [u8],
+    state: State,
+    receive: &mut [u8],
+    reply: &mut [u8],
+    byte: u8,
+) -> Stepped
+    requires { ⌜ Ready profile (length (now image)) state (now receive) (length (now reply)) × Listening (state .stage) ⌝ }
+    ensures { λ r. ⌜ Stood (stepOf profile (machineOf (now (image .entry)) state (now (receive .entry))) byte) profile r
+        (now (image .exit)) (now (receive .exit)) (now (reply .entry)) (now (reply .exit)) ⌝ }
+{
+    let at = state.held;
+    let stage = state.stage;
+    receive[at] = byte;
+    let n = at + 1;
+    let progress = packet::gathered(&receive[..n], awaited(stage));
+    match progress {
+        Progress::Astray => Stepped {
+            state: holding(state, 0),
+            count: 0,
+        },
+        Progress::Partial => Stepped {
+            state: holding(state, n),
+            count: 0,
+        },
+        Progress::Unfit => stepped(refuse_early(state, reply)),
+        Progress::Complete => stepped(complete(profile, image, state, &receive[..n], reply)),
+        Progress::Excess => Stepped {
+            state: holding(state, 0),
+            count: 0,
+        },
+    }
+}
+
+fn stepped(a: Answered) -> Stepped
+    ensures { λ r. ⌜ r ≡ record { state = a .state; count = a .count } ⌝ }
+{
+    let state = a.state;
+    Stepped {
+        state,
+        count: a.count,
+    }
+}
+
+// One byte.
+fn step(
+    profile: Profile,
+    image: &mut [u8],
+    state: State,
+    receive: &mut [u8],
+    reply: &mut [u8],
+    byte: u8,
+) -> Stepped
+    requires { ⌜ Ready profile (length (now image)) state (now receive) (length (now reply)) ⌝ }
+    ensures { λ r. ⌜ Stood (stepOf profile (machineOf (now (image .entry)) state (now (receive .entry))) byte) profile r
+        (now (image .exit)) (now (receive .exit)) (now (reply .entry)) (now (reply .exit)) ⌝ }
+{
+    let stage = state.stage;
+    match stage {
+        Stage::Setting(pulse) => stepped(wake(profile, image, state, pulse, byte, reply)),
+        Stage::Authentication => listen(profile, image, state, receive, reply, byte),
+        Stage::Command => listen(profile, image, state, receive, reply, byte),
+        Stage::Writing(_) => listen(profile, image, state, receive, reply, byte),
+        Stage::Reading(_) => listen(profile, image, state, receive, reply, byte),
+    }
+}
+
+// An accepted delivery.
+pub(crate) fn run(
+    profile: Profile,
+    image: &mut [u8],
+    state: State,
+    receive: &mut [u8],
+    reply: &mut [u8],
+    input: &[u8],
+) -> Fed
+    requires { ⌜ Ready profile (length (now image)) state (now receive) (length (now reply)) ⌝ }
+    ensures { λ r. ⌜ Ran (feedOf profile (machineOf (now (image .entry)) state (now (receive .entry))) (now (input .entry))) (now (input .entry)) r
+        (now (image .exit)) (now (receive .entry)) (now (receive .exit)) (now (reply .entry)) (now (reply .exit)) ⌝ }
+{
+    let mut now_state = state;
+    let mut i = 0;
+    while i < input.len() {
+        let s = step(profile, image, now_state, receive, reply, input[i]);
+        now_state = s.state;
+        i += 1;
+        let count = s.count;
+        if count != 0 {
+            return Fed {
+                refusal: Refusal::Accepted,
+                state: now_state,
+                consumed: i,
+                count,
+            };
+        }
+    }
+    Fed {
+        refusal: Refusal::Accepted,
+        state: now_state,
+        consumed: i,
+        count: 0,
+    }
+}

@@ -1,0 +1,4 @@
+pub mod Search
+pub mod Padded
+pub mod Compare
+pub mod Codes

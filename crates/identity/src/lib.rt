@@ -1,0 +1,139 @@
+// The ID code: where it is stored, and what a code that is sent to the device is answered.
+ghost use mathlib.Core.List.{_++_};
+ghost use mathlib.Core.Path.{_≡_};
+ghost use Prim.Native.Nat.{_≤_};
+ghost use lib.ListN.{take, drop, getD};
+ghost use Rattle.verdict.specs.Check.{firstFault, verdictOf};
+ghost use Rattle.profile.specs.Areas.{areasOf};
+ghost use Rattle.identity.specs.Identity.{Configured, noId, idOf, isNone, totalErase, idChecks};
+ghost use Rattle.identity.specs.Same.{same};
+use profile::Place;
+use profile::Profile;
+use profile::Spot;
+use verdict::Reason;
+use verdict::Verdict;
+
+// 41 4C 65 52 41 53 45 and nine FFh.
+const ERASE_CODE: [u8; 16] = [
+    0x41,
+    0x4C,
+    0x65,
+    0x52,
+    0x41,
+    0x53,
+    0x45,
+    0xFF,
+    0xFF,
+    0xFF,
+    0xFF,
+    0xFF,
+    0xFF,
+    0xFF,
+    0xFF,
+    0xFF,
+];
+
+// The first config area in use.
+fn config_area(profile: Profile) -> Place
+    ensures { λ r. ⌜ Configured (areasOf profile) r ⌝ }
+{
+    let n = profile::used(profile.noa);
+    let mut base: usize = 0;
+    let mut i = 0;
+    while i < n {
+        let area = profile.areas[i];
+        if area.koa == 2 {
+            return Place::In(Spot { area, base });
+        }
+        base += profile::size(area);
+        i += 1;
+    }
+    Place::Nowhere
+}
+
+// The byte at a place of the image; FFh where it has none.
+fn byte_at(image: &[u8], at: usize) -> u8
+    ensures { λ r. ⌜ r ≡ getD (now (image .entry)) at 0xFF ⌝ }
+{
+    if at < image.len() { image[at] } else { 0xFF }
+}
+
+// Sixteen bytes of the image from a place on; FFh where it has none.
+fn sixteen(image: &[u8], base: usize) -> [u8; 16]
+    requires { ⌜ base ≤ 34359738368 ⌝ }
+    ensures { λ r. ⌜ r ≡ take 16 (drop base (now (image .entry)) ++ noId) ⌝ }
+{
+    let mut id = [0xFFu8; 16];
+    let mut i = 0;
+    while i < 16 {
+        id[i] = byte_at(image, base + i);
+        i += 1;
+    }
+    id
+}
+
+// The ID code: the first sixteen config bytes.
+pub fn stored_id(image: &[u8], profile: Profile) -> [u8; 16]
+    ensures { λ r. ⌜ r ≡ idOf (areasOf profile) (now (image .entry)) ⌝ }
+{
+    let place = config_area(profile);
+    match place {
+        Place::Nowhere => [0xFFu8; 16],
+        Place::In(spot) => {
+            let base = spot.base;
+            sixteen(image, base)
+        }
+    }
+}
+
+// Whether two slices hold the same bytes.
+fn equal(a: &[u8], b: &[u8]) -> bool
+    ensures { λ r. ⌜ r ≡ same (now (a .entry)) (now (b .entry)) ⌝ }
+{
+    if a.len() != b.len() {
+        return false;
+    }
+    let mut i = 0;
+    while i < a.len() {
+        if a[i] != b[i] {
+            return false;
+        }
+        i += 1;
+    }
+    true
+}
+
+// Whether no ID is stored: sixteen FFh.
+pub fn is_none(id: [u8; 16]) -> bool
+    ensures { λ r. ⌜ r ≡ isNone id ⌝ }
+{
+    let none = [0xFFu8; 16];
+    equal(&id, &none)
+}
+
+// Whether the code erases everything: it is the total-erase code, and the latched bit 126 permits it.
+pub fn is_total_erase(id: [u8; 16], code: &[u8]) -> bool
+    ensures { λ r. ⌜ r ≡ totalErase id (now (code .entry)) ⌝ }
+{
+    if !equal(code, &ERASE_CODE) {
+        return false;
+    }
+    id[0] % 128 >= 64
+}
+
+// Whether the latched ID lets the code in: DCh, DBh.
+pub fn check_id(id: [u8; 16], code: &[u8]) -> Verdict
+    ensures { λ r. ⌜ r ≡ verdictOf (firstFault (idChecks id (now (code .entry)))) ⌝ }
+{
+    if id[0] < 128 {
+        return Verdict::Refused(Reason::Locked);
+    }
+    if is_total_erase(id, code) {
+        return Verdict::Granted;
+    }
+    if equal(code, &id) {
+        Verdict::Granted
+    } else {
+        Verdict::Refused(Reason::OtherId)
+    }
+}

@@ -1,0 +1,144 @@
+-- The commands: their numbers, their information, their checks in order.
+use mathlib.Core.Bool.{Bool, true, false, not, cond}
+use mathlib.Core.List.{List, [], _∷_, _++_}
+use Prim.Native.Nat.{ℕ, _+_, _-_}
+use lib.ListN.{length, take, drop, getD}
+use lib.Dec.{leb, eqb}
+use Rattle.numbers.specs.declared.Number.{Number}
+use Rattle.numbers.specs.declared.Number.the-variants.{Is, CutShort}
+use Rattle.numbers.specs.Bytes.{numberAt}
+use Rattle.verdict.specs.declared.Reason.{Reason}
+use Rattle.verdict.specs.declared.Reason.the-variants.{UnknownCommand, WrongLength, WrongStage, NoSuchArea}
+use Rattle.verdict.specs.Check.{Check, _gives_}
+use Rattle.profile.specs.declared.Profile.{Profile}
+use Rattle.profile.specs.Areas.{areasOf}
+use Rattle.ranges.specs.declared.Purpose.the-variants.{Erase as ToErase, Write as ToWrite, Read as ToRead}
+use Rattle.ranges.specs.Ranges.{rangeChecks}
+use Rattle.packet.specs.Packet.{endingChecks}
+use Rattle.baud.specs.Rate.{rateChecks}
+use Rattle.identity.specs.Identity.{idChecks}
+use Rattle.protocol.specs.declared.Com.{Com}
+use Rattle.protocol.specs.declared.Com.the-variants.{Inquiry, Erase, Write, Read, Authenticate, Baud, Signature, Area, Unknown}
+use Rattle.protocol.specs.declared.Pulse.{Pulse}
+use Rattle.protocol.specs.declared.Range.{Range}
+use Rattle.protocol.specs.declared.Stage.{Stage}
+use Rattle.protocol.specs.declared.Stage.the-variants.{Setting, Authentication, Command, Writing, Reading}
+use Rattle.protocol.specs.declared.State.{State}
+use Rattle.protocol.specs.State.{windowOf}
+
+-- the command of a number
+unfoldable pub comOf : ℕ → Com
+comOf n =
+    cond (eqb n 0x00) Inquiry
+    (cond (eqb n 0x12) Erase
+    (cond (eqb n 0x13) Write
+    (cond (eqb n 0x15) Read
+    (cond (eqb n 0x30) Authenticate
+    (cond (eqb n 0x34) Baud
+    (cond (eqb n 0x3A) Signature
+    (cond (eqb n 0x3B) Area
+    Unknown)))))))
+
+-- COM or RES of a packet, and the bytes between it and SUM
+abbrev pub codeAt : List ℕ → ℕ
+codeAt q = getD q 3 0
+
+abbrev pub infoCount : List ℕ → ℕ
+infoCount q = length q - 6
+
+abbrev pub infoOf : List ℕ → List ℕ
+infoOf q = take (infoCount q) (drop 4 q)
+
+-- the number in the four bytes from a place on; a command of the right length has them
+abbrev pub valueOf : Number → ℕ
+valueOf (Is n) = n
+valueOf CutShort = 0
+
+unfoldable pub fourAt : List ℕ → ℕ → ℕ
+fourAt q at = valueOf (numberAt 4 q at)
+
+-- SAD and EAD of a range, BRT of a rate, and an area's number
+abbrev pub sadOf : List ℕ → ℕ
+sadOf q = fourAt q 4
+
+abbrev pub eadOf : List ℕ → ℕ
+eadOf q = fourAt q 8
+
+abbrev pub brtOf : List ℕ → ℕ
+brtOf q = fourAt q 4
+
+abbrev pub numberOf : List ℕ → ℕ
+numberOf q = getD q 4 0
+
+abbrev pub infoLength : Com → ℕ
+infoLength Inquiry = 0
+infoLength Erase = 8
+infoLength Write = 8
+infoLength Read = 8
+infoLength Authenticate = 16
+infoLength Baud = 4
+infoLength Signature = 0
+infoLength Area = 1
+infoLength Unknown = 0
+
+abbrev pub isUnknown : Com → Bool
+isUnknown Inquiry = false
+isUnknown Erase = false
+isUnknown Write = false
+isUnknown Read = false
+isUnknown Authenticate = false
+isUnknown Baud = false
+isUnknown Signature = false
+isUnknown Area = false
+isUnknown Unknown = true
+
+abbrev pub isAuthenticate : Com → Bool
+isAuthenticate Inquiry = false
+isAuthenticate Erase = false
+isAuthenticate Write = false
+isAuthenticate Read = false
+isAuthenticate Authenticate = true
+isAuthenticate Baud = false
+isAuthenticate Signature = false
+isAuthenticate Area = false
+isAuthenticate Unknown = false
+
+-- authentication stage permits only authenticate, command stage all others; no command is received elsewhere
+abbrev pub stageWrong : Stage → Com → Bool
+stageWrong (Setting u) cmd = true
+stageWrong Authentication cmd = not (isAuthenticate cmd)
+stageWrong Command cmd = isAuthenticate cmd
+stageWrong (Writing r) cmd = true
+stageWrong (Reading r) cmd = true
+
+-- unknown COM, then length, then stage
+unfoldable pub formChecks : Stage → Com → ℕ → List (Check Reason)
+formChecks stage cmd count =
+    (isUnknown cmd gives UnknownCommand)
+    ∷ (not (eqb count (infoLength cmd)) gives WrongLength)
+    ∷ (stageWrong stage cmd gives WrongStage)
+    ∷ []
+
+-- the number of an area that is not there
+unfoldable pub areaChecks : ℕ → List ℕ → List (Check Reason)
+areaChecks noa q = (leb noa (numberOf q) gives NoSuchArea) ∷ []
+
+-- the command's own
+unfoldable pub ownChecks : Profile → State → Com → List ℕ → List (Check Reason)
+ownChecks p st Inquiry q = []
+ownChecks p st Erase q = rangeChecks (areasOf p) (windowOf p st) ToErase (sadOf q) (eadOf q)
+ownChecks p st Write q = rangeChecks (areasOf p) (windowOf p st) ToWrite (sadOf q) (eadOf q)
+ownChecks p st Read q = rangeChecks (areasOf p) (windowOf p st) ToRead (sadOf q) (eadOf q)
+ownChecks p st Authenticate q = idChecks (st .id) (infoOf q)
+ownChecks p st Baud q = rateChecks (p .sci) (p .rmb) (brtOf q)
+ownChecks p st Signature q = []
+ownChecks p st Area q = areaChecks (p .noa) q
+ownChecks p st Unknown q = []
+
+-- the form, then the command's own
+unfoldable pub knownChecks : Profile → State → List ℕ → List (Check Reason)
+knownChecks p st q = formChecks (st .stage) (comOf (codeAt q)) (infoCount q) ++ ownChecks p st (comOf (codeAt q)) q
+
+-- ETX and SUM before all
+unfoldable pub commandChecks : Profile → State → List ℕ → List (Check Reason)
+commandChecks p st q = endingChecks q ++ knownChecks p st q

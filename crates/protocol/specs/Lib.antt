@@ -1,0 +1,5 @@
+pub mod State
+pub mod Commands
+pub mod Transfer
+pub mod Fits
+pub mod Fit
