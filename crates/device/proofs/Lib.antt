@@ -3,6 +3,7 @@ pub mod Delivered
 pub mod Examples
 pub mod Going
 pub mod Kept
+pub mod NextCall
 pub mod Replies
 pub mod Rows
 pub mod Settles
