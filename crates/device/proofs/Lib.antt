@@ -1,13 +1,7 @@
-pub mod Decided
 pub mod Delivered
-pub mod Examples
 pub mod Going
 pub mod Kept
-pub mod NextCall
-pub mod Replies
-pub mod Rows
 pub mod Settles
 pub mod Steps
 pub mod Turns
-pub mod Unique
 pub mod Woken

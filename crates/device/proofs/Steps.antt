@@ -32,7 +32,8 @@ use Rattle.device.specs.Wake.{wakeOf}
 use Rattle.device.specs.Step.{Machine, machineOf, Step, settled, holding, earlyCode, endOf, refusedEarly, heard, stepIn, stepOf}
 use Rattle.device.specs.Listen.{held, kindOf, answerOf, Listening, RangeIn}
 use Rattle.device.specs.Fits.{FitMachine}
-use Rattle.device.specs.Post.{Ready, Stood}
+use Rattle.device.specs.Post.{Stood}
+use Rattle.calls.specs.Ready.{Ready}
 use Rattle.device.proofs.Going.{going}
 use Rattle.device.proofs.Woken.{front-nothing}
 use Rattle.device.proofs.Kept.{machine-fits, state-fits, still-fits, held-short}

@@ -10,16 +10,17 @@ use Rattle.packet.proofs.Laws.{impossible}
 use Rattle.reply.specs.Reply.{front}
 use Rattle.protocol.specs.declared.State.{State}
 use Rattle.device.specs.declared.Fed.{Fed}
-use Rattle.device.specs.declared.Refusal.{Refusal}
-use Rattle.device.specs.declared.Refusal.the-variants.{Accepted, Unacceptable, WrongImage, WrongState, ShortReceive, ShortReply}
+use Rattle.calls.specs.declared.Refusal.{Refusal}
+use Rattle.calls.specs.declared.Refusal.the-variants.{Accepted, Unacceptable, WrongImage, WrongState, ShortReceive, ShortReply}
 use Rattle.device.specs.declared.Stepped.{Stepped}
 use Rattle.device.specs.Step.{Machine, machineOf, Step, stepOf}
 use Rattle.device.specs.Feed.{Delivery, feedOf}
-use Rattle.device.specs.Calls.{isAccepted}
-use Rattle.device.specs.Post.{Ran, FedBy, Ready, Stood}
+use Rattle.calls.specs.Calls.{isAccepted}
+use Rattle.device.specs.Post.{Ran, FedBy, Stood}
+use Rattle.calls.specs.Ready.{Ready}
 use Rattle.device.proofs.Delivered.{later, atOnce, Reached, reached-start, reached-quiet, reached-reply, reached-end}
 use Rattle.device.proofs.Woken.{front-nothing}
-use Rattle.device.proofs.Rows.{is-accepted}
+use Rattle.calls.proofs.Rows.{is-accepted}
 
 -- what the bytes before i have done: no reply yet, the state fits, and what the whole input gives is what its rest gives, i bytes later
 pub record Turned (p : Profile) (im₀ rc₀ rp₀ bs : List ℕ) (st₀ : State) (im rc rp : List ℕ) (st : State) (i : ℕ) : Type 0 where

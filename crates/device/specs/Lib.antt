@@ -4,5 +4,4 @@ pub mod Listen
 pub mod Feed
 pub mod Records
 pub mod Fits
-pub mod Calls
 pub mod Post

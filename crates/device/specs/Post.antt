@@ -9,8 +9,8 @@ use Rattle.acceptance.specs.Rules.{Accepted as AcceptedProfile}
 use Rattle.reply.specs.Reply.{front}
 use Rattle.protocol.specs.declared.State.{State}
 use Rattle.protocol.specs.Fit.{Fit}
-use Rattle.device.specs.declared.Refusal.{Refusal}
-use Rattle.device.specs.declared.Refusal.the-variants.{Accepted, Unacceptable, WrongImage, WrongState, ShortReceive, ShortReply}
+use Rattle.calls.specs.declared.Refusal.{Refusal}
+use Rattle.calls.specs.declared.Refusal.the-variants.{Accepted, Unacceptable, WrongImage, WrongState, ShortReceive, ShortReply}
 use Rattle.device.specs.declared.Fed.{Fed}
 use Rattle.device.specs.declared.Stepped.{Stepped}
 use Rattle.device.specs.Step.{Step}
@@ -42,14 +42,6 @@ FedBy WrongImage d input st r image₀ image receive₀ receive reply₀ reply =
 FedBy WrongState d input st r image₀ image receive₀ receive reply₀ reply = Unfed WrongState st r image₀ image receive₀ receive reply₀ reply
 FedBy ShortReceive d input st r image₀ image receive₀ receive reply₀ reply = Unfed ShortReceive st r image₀ image receive₀ receive reply₀ reply
 FedBy ShortReply d input st r image₀ image receive₀ receive reply₀ reply = Unfed ShortReply st r image₀ image receive₀ receive reply₀ reply
-
--- what a step of an accepted feed asks: n bytes of image, k of reply buffer
-pub record Ready (p : Profile) (n : ℕ) (st : State) (rc : List ℕ) (k : ℕ) : Type 0 where
-  pub profile : AcceptedProfile p
-  pub image : n ≡ totalOf (areasOf p)
-  pub receive : 1030 ≤ length rc
-  pub reply : 1030 ≤ k
-  pub fit : Fit p st rc
 
 -- what a step leaves: s is what is defined
 pub record Stood (s : Step) (p : Profile) (r : Stepped) (im rc before after : List ℕ) : Type 0 where

@@ -5,36 +5,18 @@ use mathlib.Core.Option.{none}
 use mathlib.Core.Path.{_≡_, refl, sym, ap, _∙_}
 use Prim.Native.Nat.{ℕ, _+_, _≤_}
 use native.Mathlib.Omega.{arith}
-use lib.Dec.{eqb}
 use lib.ListN.{length, take, drop, length-append, length-drop}
 use lib.Seq.{length-take-le, take-append-le}
-use borrow.Author.Tests.{eqb-true, eq-eqb, not-false}
+use borrow.Author.Tests.{not-false}
 use Rattle.verdict.specs.Check.{firstFault, NoneApplies}
 use Rattle.verdict.proofs.FirstFault.{clear}
 use Rattle.profile.specs.declared.Area.{Area}
 use Rattle.profile.specs.declared.Spot.{Spot}
 use Rattle.profile.specs.declared.Place.{Place}
 use Rattle.profile.specs.declared.Place.the-variants.{In, Nowhere}
-use Rattle.profile.proofs.Table.{both}
-use Rattle.identity.specs.Same.{same}
+use Rattle.compare.specs.Same.{same}
+use Rattle.compare.proofs.Same.{same-eq}
 use Rattle.identity.specs.Identity.{configFrom, noId, idAt, idOf, bit127, eraseCode, totalErase, idChecks}
-
--- lists that compare as the same are equal, and the other way round
-pub same-eq : (xs ys : List ℕ) → same xs ys ≡ true → xs ≡ ys
-unfolding same
-same-eq [] [] e = refl
-same-eq [] (y ∷ ys) e = let z : _≡_ {A = ℕ} 0 1 = cc in absurd (omega arith)
-same-eq (x ∷ xs) [] e = let z : _≡_ {A = ℕ} 0 1 = cc in absurd (omega arith)
-same-eq (x ∷ xs) (y ∷ ys) e =
-    let halves = both (eqb x y) (same xs ys) e in
-    let first : x ≡ y = eqb-true x y (halves .0) in
-    let rest : xs ≡ ys = same-eq xs ys (halves .1) in
-    cc
-
-pub same-refl : (xs : List ℕ) → same xs xs ≡ true
-unfolding same
-same-refl [] = refl
-same-refl (x ∷ xs) = rw (eq-eqb x x refl) (same-refl xs)
 
 -- sixteen bytes, for every image
 pub id-length : (areas : List Area) (image : List ℕ) → length (idOf areas image) ≡ 16

@@ -1,4 +1,3 @@
 pub mod Search
 pub mod Padded
-pub mod Compare
 pub mod Codes

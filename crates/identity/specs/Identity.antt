@@ -12,7 +12,7 @@ use Rattle.profile.specs.declared.Area.{Area}
 use Rattle.profile.specs.declared.Place.{Place}
 use Rattle.profile.specs.declared.Place.the-variants.{In, Nowhere}
 use Rattle.profile.specs.Areas.{sizeOf}
-use Rattle.identity.specs.Same.{same}
+use Rattle.compare.specs.Same.{same}
 
 -- the first config area; base is the place of the first area's first byte
 unfoldable pub configFrom : ℕ → List Area → Place

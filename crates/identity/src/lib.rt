@@ -5,8 +5,8 @@ ghost use Prim.Native.Nat.{_≤_};
 ghost use lib.ListN.{take, drop, getD};
 ghost use Rattle.verdict.specs.Check.{firstFault, verdictOf};
 ghost use Rattle.profile.specs.Areas.{areasOf};
-ghost use Rattle.identity.specs.Identity.{Configured, noId, idOf, isNone, totalErase, idChecks};
-ghost use Rattle.identity.specs.Same.{same};
+ghost use Rattle.identity.specs.Identity.{Configured, noId, idOf, isNone, eraseCode, totalErase, idChecks};
+ghost use Rattle.compare.specs.Same.{same};
 use profile::Place;
 use profile::Profile;
 use profile::Spot;
@@ -86,36 +86,26 @@ pub fn stored_id(image: &[u8], profile: Profile) -> [u8; 16]
     }
 }
 
-// Whether two slices hold the same bytes.
-fn equal(a: &[u8], b: &[u8]) -> bool
-    ensures { λ r. ⌜ r ≡ same (now (a .entry)) (now (b .entry)) ⌝ }
-{
-    if a.len() != b.len() {
-        return false;
-    }
-    let mut i = 0;
-    while i < a.len() {
-        if a[i] != b[i] {
-            return false;
-        }
-        i += 1;
-    }
-    true
-}
-
 // Whether no ID is stored: sixteen FFh.
 pub fn is_none(id: [u8; 16]) -> bool
     ensures { λ r. ⌜ r ≡ isNone id ⌝ }
 {
     let none = [0xFFu8; 16];
-    equal(&id, &none)
+    compare::equal(&id, &none)
+}
+
+// Whether this is the total-erase code.
+pub fn is_erase_code(code: &[u8]) -> bool
+    ensures { λ r. ⌜ r ≡ same (now (code .entry)) eraseCode ⌝ }
+{
+    compare::equal(code, &ERASE_CODE)
 }
 
 // Whether the code erases everything: it is the total-erase code, and the latched bit 126 permits it.
 pub fn is_total_erase(id: [u8; 16], code: &[u8]) -> bool
     ensures { λ r. ⌜ r ≡ totalErase id (now (code .entry)) ⌝ }
 {
-    if !equal(code, &ERASE_CODE) {
+    if !is_erase_code(code) {
         return false;
     }
     id[0] % 128 >= 64
@@ -131,7 +121,7 @@ pub fn check_id(id: [u8; 16], code: &[u8]) -> Verdict
     if is_total_erase(id, code) {
         return Verdict::Granted;
     }
-    if equal(code, &id) {
+    if compare::equal(code, &id) {
         Verdict::Granted
     } else {
         Verdict::Refused(Reason::OtherId)

@@ -72,7 +72,7 @@ pub fn four_at(packet: &[u8], at: usize) -> u32
 }
 
 // How many bytes of information a command has.
-fn info_length(cmd: Com) -> usize
+pub fn info_length(cmd: Com) -> usize
     ensures { λ r. ⌜ r ≡ infoLength cmd ⌝ }
 {
     match cmd {

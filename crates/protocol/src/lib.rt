@@ -12,6 +12,7 @@ pub use commands::com_of;
 pub use commands::four_at;
 pub use commands::info;
 pub use commands::info_count;
+pub use commands::info_length;
 pub use fitting::fits;
 use profile::Profile;
 pub use transfer::check_next;

@@ -1,38 +1,11 @@
 // Sessions with the device on the bench profile: what is sent is written out below, and each reply is printed.
 ghost use Prim.Native.Nat.{_+_, _≤_, _<_};
 ghost use lib.ListN.{length};
+use bench::bench_profile;
 use device::Refusal;
 use numbers::Number;
-use profile::Area;
 use profile::Profile;
-use profile::Window;
 use protocol::State;
-
-fn bench() -> Profile {
-    let user = Area {
-        koa: 0,
-        sad: 0,
-        ead: 0xFFFF,
-        eau: 0x2000,
-        wau: 0x80,
-    };
-    let config = Area {
-        koa: 2,
-        sad: 0x0100_0000,
-        ead: 0x0100_00FF,
-        eau: 0,
-        wau: 0x10,
-    };
-    Profile {
-        areas: [user, config, user, user, user, user, user, user],
-        noa: 2,
-        sci: 60000000,
-        rmb: 4000000,
-        typ: 1,
-        bfv: 0x0100,
-        window: Window { low: 0, high: 0 },
-    }
-}
 
 // Bytes in hex, each behind a space.
 fn print_bytes(bytes: &[u8]) {
@@ -229,7 +202,7 @@ fn line_at(script: &[u8], at: usize) -> Line
 // send; a title's length of 0 is a reset.
 fn play(image: &mut [u8], receive: &mut [u8], reply: &mut [u8], title: &[u8], script: &[u8]) {
     io::write_all(1, title);
-    let p = bench();
+    let p = bench_profile();
     flash::erase_all(image);
     let mut st = begin(p, image);
     let mut at = 0;

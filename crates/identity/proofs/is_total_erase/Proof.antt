@@ -6,23 +6,20 @@ use Rattle.identity.specs.Identity.{totalErase, bit126}
 use Rattle.identity.proofs.is_total_erase.Statement.{statement}
 use Rattle.identity.proofs.is_total_erase.Tie as tie
 
-slice-aggregate-equal : tie.Need-slice-aggregate-equal
-slice-aggregate-equal c = search needs
-
-equal-requires : tie.Need-equal-requires
-equal-requires c κs = search needs
+is-erase-code-requires : tie.Need-is-erase-code-requires
+is-erase-code-requires c κs = search needs
 
 returns : tie.Need-returns
 unfolding totalErase
-returns c = simp (sym (c .before .equal .ensures) ∙ not-true _ (c .if1 .taken))
+returns c = simp (sym (c .before .is-erase-code .ensures) ∙ not-true _ (c .if1 .taken))
 
 array-read-result : tie.Need-array-read-result
 array-read-result c = search needs
 
 returns-2 : tie.Need-returns-2
 unfolding totalErase bit126
-returns-2 c = simp (sym (c .before .equal .ensures) ∙ not-false _ (c .if1 .left))
+returns-2 c = simp (sym (c .before .is-erase-code .ensures) ∙ not-false _ (c .if1 .left))
 
 pub is-total-erase-spec : {M : Type 1} → statement M
 is-total-erase-spec =
-    tie.close (tie.spec slice-aggregate-equal equal-requires returns array-read-result returns-2)
+    tie.close (tie.spec is-erase-code-requires returns array-read-result returns-2)

@@ -15,8 +15,8 @@ abbrev μ-loop : tie.MeasureT-loop
 write-all-requires : tie.Need-write-all-requires Inv-loop μ-loop
 write-all-requires c κs = search needs
 
-bench-requires : tie.Need-bench-requires Inv-loop μ-loop
-bench-requires c κs = search needs
+bench-profile-requires : tie.Need-bench-profile-requires Inv-loop μ-loop
+bench-profile-requires c κs = search needs
 
 erase-all-requires : tie.Need-erase-all-requires Inv-loop μ-loop
 erase-all-requires c κs = search needs
@@ -91,7 +91,7 @@ play-spec =
     Inv-loop
     μ-loop
     write-all-requires
-    bench-requires
+    bench-profile-requires
     erase-all-requires
     begin-requires
     loop-holds

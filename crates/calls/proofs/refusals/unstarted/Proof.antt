@@ -1,0 +1,39 @@
+-- `calls::refusals::unstarted` meets its contract. Each return is that of the first row that applies. Assumes nothing.
+use mathlib.Core.Path.{sym, _∙_}
+use borrow.Author.Needs.{needs}
+use Rattle.acceptance.proofs.Accepted.{judged}
+use Rattle.calls.proofs.Rows.{breaks-not, start-first, start-second, start-accepts}
+use Rattle.calls.proofs.refusals.unstarted.Statement.{statement}
+use Rattle.calls.proofs.refusals.unstarted.Tie as tie
+
+judge-requires : tie.Need-judge-requires
+judge-requires c κs = search needs
+
+enum-told : tie.Need-enum-told
+enum-told c = search needs
+
+enum-told-2 : tie.Need-enum-told-2
+enum-told-2 c = search needs
+
+total-requires : tie.Need-total-requires
+total-requires c κs = search needs
+
+returns : tie.Need-returns
+returns c =
+    let a = c .before .before .before .before .before .args in
+    sym (start-second (a .profile) (a .length) (judged (a .profile) (sym (c .before .before .before .before .judge .ensures) ∙ c .before .before .enum-told2 .given .1)) (λ e. c .if1 .taken (e ∙ sym (c .before .total .ensures .0))))
+
+returns-2 : tie.Need-returns-2
+returns-2 c =
+    let a = c .before .before .before .args in
+    sym (start-first (a .profile) (a .length) (breaks-not (a .profile) _ (sym (c .before .before .judge .ensures) ∙ c .enum-told .given .1)))
+
+returns-3 : tie.Need-returns-3
+returns-3 c =
+    let a = c .before .before .before .before .before .args in
+    sym (start-accepts (a .profile) (a .length) (judged (a .profile) (sym (c .before .before .before .before .judge .ensures) ∙ c .before .before .enum-told2 .given .1)) (c .if1 .left ∙ c .before .total .ensures .0))
+
+pub unstarted-spec : {M : Type 1} → statement M
+unstarted-spec =
+    tie.close
+    (tie.spec judge-requires enum-told enum-told-2 total-requires returns returns-2 returns-3)

@@ -1,0 +1,156 @@
+// A device driven over a script of deliveries and resets.
+ghost use mathlib.Core.Path.{_≡_};
+ghost use lib.ListN.{length};
+ghost use Rattle.verdict.specs.Check.{firstFault};
+ghost use Rattle.recording.specs.Recording.{stopped};
+ghost use Rattle.protocol.specs.State.{freshState};
+ghost use Rattle.calls.specs.Calls.{feedRows, refusalOf};
+ghost use Rattle.device.specs.Step.{machineOf};
+ghost use Rattle.calls.specs.Ready.{Ready};
+ghost use Rattle.history.specs.History.{hearing, machineAfter, repliesOver, bufferAfter};
+ghost use Rattle.driver.specs.Post.{Stands, Inside, callsAt, Played, DrivenBy};
+use device::Refusal;
+use profile::Profile;
+use protocol::State;
+use recording::Found;
+
+// How a script was driven: the refusal of its first call, the state after the last, and how many bytes of the script could be read.
+pub struct Driven {
+    pub refusal: Refusal,
+    pub state: State,
+    pub read: usize,
+}
+
+// A delivery, and again what a reply left unread.
+fn deliver(
+    profile: Profile,
+    image: &mut [u8],
+    state: State,
+    receive: &mut [u8],
+    reply: &mut [u8],
+    input: &[u8],
+) -> State
+    requires { ⌜ Ready profile (length (now image)) state (now receive) (length (now reply)) ⌝ }
+    ensures { λ r. ⌜ Stands profile (hearing profile (machineOf (now (image .entry)) state (now (receive .entry))) (now (input .entry)))
+        (repliesOver profile (machineOf (now (image .entry)) state (now (receive .entry))) (now (input .entry)) (now (reply .entry)))
+        r (now (image .exit)) (now (receive .exit)) (now (reply .exit)) ⌝ }
+{
+    let n = input.len();
+    let mut st = state;
+    let mut at = 0;
+    while at < n {
+        let fed = device::feed(profile, image, st, receive, reply, &input[at..]);
+        let used = fed.consumed;
+        st = fed.state;
+        at += used;
+    }
+    st
+}
+
+// A record of a script that was found.
+fn call(
+    profile: Profile,
+    image: &mut [u8],
+    state: State,
+    receive: &mut [u8],
+    reply: &mut [u8],
+    script: &[u8],
+    found: Found,
+) -> State
+    requires { ⌜ Ready profile (length (now image)) state (now receive) (length (now reply)) × Inside (length (now script)) found ⌝ }
+    ensures { λ r. ⌜ Stands profile (machineAfter profile (machineOf (now (image .entry)) state (now (receive .entry))) (callsAt (now (script .entry)) found))
+        (bufferAfter profile (machineOf (now (image .entry)) state (now (receive .entry))) (callsAt (now (script .entry)) found) (now (reply .entry)))
+        r (now (image .exit)) (now (receive .exit)) (now (reply .exit)) ⌝ }
+{
+    match found {
+        Found::Host(part) => {
+            let from = part.from;
+            let to = part.to;
+            deliver(profile, image, state, receive, reply, &script[from..to])
+        }
+        Found::Device(_) => state,
+        Found::Reset(_) => {
+            let begun = device::reset(profile, image, state);
+            begun.state
+        }
+        Found::End => state,
+        Found::Unreadable => state,
+    }
+}
+
+// Where the next record begins; without one, where this is.
+fn behind(found: Found, at: usize) -> usize
+    ensures { λ r. ⌜ r ≡ stopped (λ to. to) at found ⌝ }
+{
+    match found {
+        Found::Host(part) => part.to,
+        Found::Device(part) => part.to,
+        Found::Reset(part) => part.to,
+        Found::End => at,
+        Found::Unreadable => at,
+    }
+}
+
+// A script on a device that has started.
+fn run(
+    profile: Profile,
+    image: &mut [u8],
+    state: State,
+    receive: &mut [u8],
+    reply: &mut [u8],
+    script: &[u8],
+) -> Driven
+    requires { ⌜ Ready profile (length (now image)) state (now receive) (length (now reply)) ⌝ }
+    ensures { λ r. ⌜ Played profile (machineOf (now (image .entry)) state (now (receive .entry))) (now (script .entry)) r
+        (now (image .exit)) (now (receive .exit)) (now (reply .entry)) (now (reply .exit)) ⌝ }
+{
+    let mut st = state;
+    let mut at = 0;
+    loop {
+        let found = recording::record_at(script, at);
+        let next = behind(found, at);
+        if next == at {
+            return Driven {
+                refusal: Refusal::Accepted,
+                state: st,
+                read: at,
+            };
+        }
+        st = call(profile, image, st, receive, reply, script, found);
+        at = next;
+    }
+}
+
+// Starts a device on an image and drives it over a script.
+pub fn drive(
+    profile: Profile,
+    image: &mut [u8],
+    receive: &mut [u8],
+    reply: &mut [u8],
+    script: &[u8],
+) -> Driven
+    ensures { λ r. ⌜ DrivenBy (refusalOf (firstFault (feedRows profile (length (now (image .entry))) (freshState profile) (now (receive .entry)) (length (now (reply .entry))))))
+        profile (now (script .entry)) r (now (image .entry)) (now (image .exit)) (now (receive .entry)) (now (receive .exit)) (now (reply .entry)) (now (reply .exit)) ⌝ }
+{
+    let begun = device::start(profile, image);
+    let st = begun.state;
+    let refusal = begun.refusal;
+    if device::number(refusal) != 0 {
+        return Driven {
+            refusal,
+            state: st,
+            read: 0,
+        };
+    }
+    // a delivery of no bytes tells whether the buffers will do
+    let first = device::feed(profile, image, st, receive, reply, &script[0..0]);
+    let row = first.refusal;
+    if device::number(row) != 0 {
+        return Driven {
+            refusal: row,
+            state: st,
+            read: 0,
+        };
+    }
+    run(profile, image, st, receive, reply, script)
+}

@@ -1,0 +1,5 @@
+pub mod Answered
+pub mod Cut
+pub mod Demand3
+pub mod Recorded
+pub mod Replayed

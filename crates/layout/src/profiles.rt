@@ -1,0 +1,67 @@
+// A profile out of 156 bytes.
+ghost use mathlib.Core.Path.{_≡_};
+ghost use Prim.Native.Nat.{_≤_};
+ghost use Rattle.layout.specs.Fields.{twoAt};
+ghost use Rattle.layout.specs.Profile.{areaAt, areasFrom, profileIn};
+use numbers::Number;
+use profile::Area;
+use profile::Profile;
+use profile::Window;
+
+// The number in two bytes.
+fn two_at(bytes: &[u8], at: usize) -> u16
+    ensures { λ r. ⌜ r ≡ twoAt (now (bytes .entry)) at ⌝ }
+{
+    let number = numbers::read_two(bytes, at);
+    match number {
+        Number::Is(n) => n as u16,
+        Number::CutShort => 0,
+    }
+}
+
+// The area in the 17 bytes from a place on.
+fn area_at(bytes: &[u8], at: usize) -> Area
+    requires { ⌜ at ≤ 139 ⌝ }
+    ensures { λ r. ⌜ r ≡ areaAt (now (bytes .entry)) at ⌝ }
+{
+    Area {
+        koa: protocol::byte_at(bytes, at),
+        sad: protocol::four_at(bytes, at + 1),
+        ead: protocol::four_at(bytes, at + 5),
+        eau: protocol::four_at(bytes, at + 9),
+        wau: protocol::four_at(bytes, at + 13),
+    }
+}
+
+fn areas_in(bytes: &[u8]) -> [Area; 8]
+    ensures { λ r. ⌜ r ≡ areasFrom 8 20 (now (bytes .entry)) ⌝ }
+{
+    [
+        area_at(bytes, 20),
+        area_at(bytes, 37),
+        area_at(bytes, 54),
+        area_at(bytes, 71),
+        area_at(bytes, 88),
+        area_at(bytes, 105),
+        area_at(bytes, 122),
+        area_at(bytes, 139),
+    ]
+}
+
+// The profile in the bytes; what they lack counts as 0.
+pub fn profile_in(bytes: &[u8]) -> Profile
+    ensures { λ r. ⌜ r ≡ profileIn (now (bytes .entry)) ⌝ }
+{
+    Profile {
+        areas: areas_in(bytes),
+        noa: protocol::byte_at(bytes, 0),
+        sci: protocol::four_at(bytes, 4),
+        rmb: protocol::four_at(bytes, 8),
+        typ: protocol::byte_at(bytes, 1),
+        bfv: two_at(bytes, 2),
+        window: Window {
+            low: protocol::four_at(bytes, 12),
+            high: protocol::four_at(bytes, 16),
+        },
+    }
+}

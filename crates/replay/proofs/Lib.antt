@@ -1,0 +1,4 @@
+pub mod Beyond
+pub mod Laws
+pub mod Tapes
+pub mod Playing

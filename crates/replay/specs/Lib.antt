@@ -1,0 +1,4 @@
+pub mod Line
+pub mod Replay
+pub mod Post
+pub mod Blind
