@@ -5,7 +5,7 @@ use Prim.Native.Nat.{ℕ, suc, _+_, _≤_, _<_}
 use native.Mathlib.Numerals.{add-one}
 use native.Mathlib.Omega.{arith}
 use lib.ListN.{length, drop, getD, drop-of-length-le}
-use lib.Seq.{drop-cons}
+use lib.Seq.{drop-cons, drop-drop}
 use borrow.Author.Tests.{eq-eqb, ne-eqb}
 use Rattle.profile.specs.declared.Profile.{Profile}
 use Rattle.device.specs.Step.{Machine, Step, stepOf}
@@ -147,6 +147,16 @@ module _ (p : Profile) (start : Machine) (bs : List ℕ) where
 
   pub reached-start : Reached 0 start
   reached-start = sym (later-none (feedOf p start bs))
+
+  -- n bytes that brought no reply
+  pub reached-more : (i n : ℕ) (m next : Machine) → Reached i m → feedOf p m (drop i bs) ≡ later n (feedOf p next (drop n (drop i bs))) → Reached (i + n) next
+  reached-more i n m next r e =
+      let k : n + i ≡ i + n = omega arith in
+      r
+      ∙ ap (λ (d : Delivery). later i d) e
+      ∙ later-more i n (feedOf p next (drop n (drop i bs)))
+      ∙ ap (λ (l : List ℕ). later (n + i) (feedOf p next l)) (drop-drop n i bs)
+      ∙ ap (λ (j : ℕ). later j (feedOf p next (drop (i + n) bs))) k
 
   pub reached-quiet : (i : ℕ) (m : Machine) → Reached i m → i < length bs → length (stepOf p m (getD bs i 0) .reply) ≡ 0
       → Reached (i + 1) (stepOf p m (getD bs i 0) .machine)

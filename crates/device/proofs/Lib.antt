@@ -1,4 +1,5 @@
 pub mod Delivered
+pub mod Gather
 pub mod Going
 pub mod Kept
 pub mod Settles

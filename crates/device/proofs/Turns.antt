@@ -1,24 +1,31 @@
 -- A delivery byte by byte: what the bytes so far have done, and what the whole delivery leaves at its end. Assumes nothing.
 use mathlib.Core.Bool.{Bool, true, false}
-use mathlib.Core.List.{List, [], _∷_}
+use mathlib.Core.List.{List, [], _∷_, _++_}
 use mathlib.Core.Path.{_≡_, refl, sym, ap, subst, _∙_}
-use Prim.Native.Nat.{ℕ, _+_, _≤_, _<_}
+use Prim.Native.Nat.{ℕ, _+_, _-_, _≤_, _<_}
 use native.Mathlib.Omega.{arith}
-use lib.ListN.{length, getD}
+use lib.ListN.{length, take, drop, getD, length-drop, length-append, take-append-drop}
+use lib.Seq.{take-all, paste, paste-zero, take-paste, length-paste}
 use Rattle.profile.specs.declared.Profile.{Profile}
 use Rattle.packet.proofs.Laws.{impossible}
 use Rattle.reply.specs.Reply.{front}
 use Rattle.protocol.specs.declared.State.{State}
+use Rattle.protocol.specs.Fits.{heldFits}
+use Rattle.protocol.specs.Fit.{Fit}
 use Rattle.device.specs.declared.Fed.{Fed}
 use Rattle.calls.specs.declared.Refusal.{Refusal}
 use Rattle.calls.specs.declared.Refusal.the-variants.{Accepted, Unacceptable, WrongImage, WrongState, ShortReceive, ShortReply}
+use Rattle.device.specs.declared.Gathered.{Gathered}
 use Rattle.device.specs.declared.Stepped.{Stepped}
-use Rattle.device.specs.Step.{Machine, machineOf, Step, stepOf}
+use Rattle.device.specs.Step.{Machine, machineOf, Step, holding, stepOf}
 use Rattle.device.specs.Feed.{Delivery, feedOf}
+use Rattle.device.specs.Gather.{Holds, Taken}
+use Rattle.device.specs.Listen.{held}
 use Rattle.calls.specs.Calls.{isAccepted}
 use Rattle.device.specs.Post.{Ran, FedBy, Stood}
 use Rattle.calls.specs.Ready.{Ready}
-use Rattle.device.proofs.Delivered.{later, atOnce, Reached, reached-start, reached-quiet, reached-reply, reached-end}
+use Rattle.device.proofs.Delivered.{later, atOnce, Reached, reached-start, reached-more, reached-quiet, reached-reply, reached-end}
+use Rattle.device.proofs.Gather.{taken-lack, taken-there, held-count, taken-count, taken-held, taken-room, fed-more}
 use Rattle.device.proofs.Woken.{front-nothing}
 use Rattle.calls.proofs.Rows.{is-accepted}
 
@@ -71,9 +78,9 @@ module _ {p : Profile} {im₀ rc₀ rp₀ bs : List ℕ} {st₀ : State} {im rc 
   d = feedOf p start bs
 
   -- no byte is left
-  pub ran-end : length bs ≤ i → Ran d bs (record { refusal = Accepted; state = st; consumed = i; count = 0 }) im rc₀ rc rp₀ rp
-  ran-end h =
-      subst (λ (x : Delivery). Ran x bs (record { refusal = Accepted; state = st; consumed = i; count = 0 }) im rc₀ rc rp₀ rp)
+  pub ran-end : {count : ℕ} → count ≡ 0 → length bs ≤ i → Ran d bs (record { refusal = Accepted; state = st; consumed = i; count = count }) im rc₀ rc rp₀ rp
+  ran-end {count} z h =
+      subst (λ (x : Delivery). Ran x bs (record { refusal = Accepted; state = st; consumed = i; count = count }) im rc₀ rc rp₀ rp)
       (sym (reached-end p start bs i m (t .rest) h))
       (record {
         refusal = refl;
@@ -81,10 +88,91 @@ module _ {p : Profile} {im₀ rc₀ rp₀ bs : List ℕ} {st₀ : State} {im rc 
         image = refl;
         held = refl;
         consumed = refl;
-        count = refl;
+        count = z;
         reply = t .reply ∙ front-nothing rp₀;
         idle = λ e. t .untouched (let w : i ≤ length bs = t .within in omega arith);
       })
+
+  -- what is held fits, with room for more
+  pub turned-holds : Holds st rc
+  turned-holds = record { inside = t .ready .fit .inside; fits = t .ready .fit .held; room = t .ready .receive }
+
+  -- bytes that only add to a packet
+  module _ {g : Gathered} {rc′ : List ℕ} (from-rest : Taken st (take (length bs - i) (drop i bs)) g rc rc′) where
+    k : Taken st (drop i bs) g rc rc′
+    k = subst (λ (l : List ℕ). Taken st l g rc rc′) (take-all (length bs - i) (drop i bs) (omega (arith, length-drop i bs))) from-rest
+
+    abbrev q : List ℕ
+    q = take (st .held) rc
+
+    abbrev n : ℕ
+    n = g .taken
+
+    abbrev added : List ℕ
+    added = take n (drop i bs)
+
+    abbrev next : State
+    next = held (st .held + n) st
+
+    enough : n ≤ length (drop i bs)
+    enough = taken-there st rc (drop i bs) turned-holds n (k .count)
+
+    count : length added ≡ n
+    count = taken-count st rc (drop i bs) turned-holds n (k .count)
+
+    room : st .held + n ≤ length rc
+    room = taken-room st rc (drop i bs) turned-holds n (k .count)
+
+    was-count : length q ≡ st .held
+    was-count = held-count st rc (drop i bs) turned-holds n (k .count)
+
+    kept : length rc′ ≡ length rc
+    kept = ap length (k .receive) ∙ length-paste rc (st .held) (drop i bs) n room enough
+
+    held-now : take (st .held + n) rc′ ≡ q ++ added
+    held-now = ap (take (st .held + n)) (k .receive) ∙ take-paste rc (st .held) (drop i bs) n (t .ready .fit .inside) enough
+
+    count-now : st .held + n ≡ length (q ++ added)
+    count-now = omega (arith, length-append q added, was-count, count)
+
+    fits-now : Fit p next rc′
+    fits-now =
+        record {
+          inside = omega (arith, room, kept);
+          held = ap (heldFits (st .stage)) held-now ∙ taken-held st rc (drop i bs) turned-holds n (k .count);
+          stage = t .ready .fit .stage;
+        }
+
+    fed : feedOf p m (drop i bs) ≡ later n (feedOf p (machineOf im next rc′) (drop n (drop i bs)))
+    fed =
+        let rest : List ℕ = drop n (drop i bs) in
+        let was : m ≡ holding q m .machine = machine-eq m (holding q m .machine) refl refl (ap (λ (j : ℕ). held j st) (sym was-count)) in
+        let is : holding (q ++ added) m .machine ≡ machineOf im next rc′ =
+        machine-eq (holding (q ++ added) m .machine) (machineOf im next rc′) refl (sym held-now) (ap (λ (j : ℕ). held j st) (sym count-now)) in
+        ap (λ (l : List ℕ). feedOf p m l) (sym (take-append-drop n (drop i bs)))
+        ∙ ap (λ (x : Machine). feedOf p x (added ++ rest)) was
+        ∙ fed-more p m q added rest (t .ready .fit .held) (omega (arith, count, taken-lack st rc (drop i bs) turned-holds n (k .count)))
+        ∙ ap (λ (x : Machine). later (length added) (feedOf p x rest)) is
+        ∙ ap (λ (j : ℕ). later j (feedOf p (machineOf im next rc′) rest)) count
+
+    same : i + n ≡ 0 → rc′ ≡ rc₀
+    same e =
+        let z : n ≡ 0 = omega arith in
+        k .receive ∙ ap (λ (j : ℕ). paste rc (st .held) (drop i bs) j) z ∙ sym (paste-zero rc (st .held) (drop i bs)) ∙ t .untouched (omega arith)
+
+    pub turned-more : Turned p im₀ rc₀ rp₀ bs st₀ im rc′ rp (g .state) (i + n)
+    turned-more =
+        let r : Ready p (length im) st rc (length rp) = t .ready in
+        subst (λ (x : State). Turned p im₀ rc₀ rp₀ bs st₀ im rc′ rp x (i + n)) (sym (k .state))
+        (record {
+          within = omega (arith, enough, length-drop i bs, t .within);
+          ready = record { profile = r .profile; image = r .image; receive = rw kept (r .receive); reply = r .reply; fit = fits-now };
+          image = t .image;
+          receive = kept ∙ t .receive;
+          reply = t .reply;
+          untouched = same;
+          rest = reached-more p start bs i n m (machineOf im next rc′) (t .rest) fed;
+        })
 
   module _ {r : Stepped} {im′ rc′ rp′ : List ℕ} (h : i < length bs) (left : Stood s p r im′ rc′ rp rp′) where
     -- a byte without a reply

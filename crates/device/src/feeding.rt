@@ -1,4 +1,4 @@
-// A delivery, byte by byte.
+// A delivery: bytes that only add to a packet at once, the others one by one.
 ghost use mathlib.Core.Path.{_≡_};
 ghost use Prim.Native.Nat.{_≤_};
 ghost use lib.ListN.{length};
@@ -9,13 +9,15 @@ ghost use Rattle.reply.specs.Reply.{statusReply};
 ghost use Rattle.answer.specs.Answer.{moved};
 ghost use Rattle.answer.specs.Post.{Left, Sent};
 ghost use Rattle.device.specs.Step.{machineOf, earlyCode, endOf, stepOf};
-ghost use Rattle.device.specs.Listen.{kindOf, answerOf, Listening, RangeIn, held};
+ghost use Rattle.device.specs.Listen.{kindOf, answerOf, Listening, RangeIn};
 ghost use Rattle.device.specs.Feed.{feedOf};
 ghost use Rattle.device.specs.Post.{Ran, Stood};
 ghost use Rattle.calls.specs.Ready.{Ready};
 use crate::Fed;
 use crate::Refusal;
 use crate::Stepped;
+use crate::gathering::gather;
+use crate::gathering::holding;
 use crate::waking::wake;
 use answer::Answered;
 use packet::Kind;
@@ -36,21 +38,6 @@ fn awaited(stage: Stage) -> Kind
         Stage::Command => Kind::Command,
         Stage::Writing(_) => Kind::Data,
         Stage::Reading(_) => Kind::Data,
-    }
-}
-
-// The state with this many bytes held.
-fn holding(state: State, count: usize) -> State
-    ensures { λ r. ⌜ r ≡ held count state ⌝ }
-{
-    let stage = state.stage;
-    let id = state.id;
-    let line = state.line;
-    State {
-        stage,
-        id,
-        line,
-        held: count,
     }
 }
 
@@ -196,24 +183,26 @@ pub(crate) fn run(
 {
     let mut now_state = state;
     let mut i = 0;
+    let mut count = 0;
     while i < input.len() {
+        let g = gather(now_state, receive, &input[i..]);
+        now_state = g.state;
+        i += g.taken;
+        if input.len() <= i {
+            break;
+        }
         let s = step(profile, image, now_state, receive, reply, input[i]);
         now_state = s.state;
         i += 1;
-        let count = s.count;
+        count = s.count;
         if count != 0 {
-            return Fed {
-                refusal: Refusal::Accepted,
-                state: now_state,
-                consumed: i,
-                count,
-            };
+            break;
         }
     }
     Fed {
         refusal: Refusal::Accepted,
         state: now_state,
         consumed: i,
-        count: 0,
+        count,
     }
 }

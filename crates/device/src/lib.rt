@@ -1,5 +1,6 @@
 // The device: start, reset, feed.
 mod feeding;
+mod gathering;
 mod waking;
 
 ghost use mathlib.Core.Path.{_≡_};
@@ -33,6 +34,12 @@ pub struct Fed {
 pub struct Stepped {
     pub state: State,
     pub count: usize,
+}
+
+// What taking bytes that only add to a packet leads to, and how many they are.
+pub struct Gathered {
+    pub state: State,
+    pub taken: usize,
 }
 
 // Received bytes, up to the one that completes the first reply.

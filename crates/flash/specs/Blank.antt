@@ -13,3 +13,8 @@ searchedFrom unit i (b ∷ bs) = cond (eqb b 0xFF) (searchedFrom unit (i + 1) bs
 
 unfoldable pub searched : ℕ → List ℕ → Search
 searched unit target = searchedFrom (max unit 1) 0 target
+
+-- whether all bytes are FFh
+unfoldable pub allBlank : List ℕ → Bool
+allBlank [] = true
+allBlank (b ∷ bs) = cond (eqb b 0xFF) (allBlank bs) false

@@ -5,7 +5,7 @@ ghost use lib.ListN.{length, replicate};
 ghost use Rattle.profile.specs.Areas.{areasOf};
 ghost use Rattle.profile.specs.declared.Place.the-variants.{In};
 ghost use Rattle.flash.specs.Effects.{erased, stored, blanked, fetched, fetchedAt};
-ghost use Rattle.flash.specs.Blank.{searched};
+ghost use Rattle.flash.specs.Blank.{searched, allBlank};
 ghost use Rattle.flash.specs.Meets.{bytesBelow, Meets};
 use profile::Area;
 use profile::Place;
@@ -169,10 +169,28 @@ fn unit_end(at: usize, step: usize, length: usize) -> usize
     }
 }
 
-// The first unit that holds a byte other than FFh. The search stops there.
+// Whether all bytes are FFh. It looks at each one and never leaves early, so that the compiler can take many at once.
+fn is_blank(target: &[u8]) -> bool
+    ensures { λ r. ⌜ r ≡ allBlank (now (target .entry)) ⌝ }
+{
+    let mut blank = true;
+    let mut i = 0;
+    while i < target.len() {
+        if target[i] != 0xFF {
+            blank = false;
+        }
+        i += 1;
+    }
+    blank
+}
+
+// The first unit that holds a byte other than FFh. Where there is one, the search stops there; that there is none is found quickly beforehand.
 pub fn first_dirty(target: &[u8], unit: usize) -> Search
     ensures { λ r. ⌜ r ≡ searched unit (now (target .entry)) ⌝ }
 {
+    if is_blank(target) {
+        return Search::Clean;
+    }
     let step = if unit == 0 { 1 } else { unit };
     let mut found = Search::Clean;
     let mut number = 0;

@@ -1,0 +1,153 @@
+-- No second answer satisfies what the calls from outside promise, but for received bytes beyond the held ones; a payload is the part that is named. Assumes nothing.
+use mathlib.Core.Bool.{Bool, true, false, cond}
+use mathlib.Core.List.{List, [], _∷_}
+use mathlib.Core.Path.{_≡_, refl, sym, ap, _∙_}
+use Prim.Native.Nat.{ℕ, zero, suc, _-_}
+use native.Mathlib.Omega.{arith}
+use lib.ListN.{length, take, drop}
+use lib.Dec.{leb, eqb}
+use borrow.Author.Tests.{eqb-true, leb-true, leb-false}
+use Rattle.verdict.proofs.OneAnswer.{one-answer}
+use Rattle.packet.specs.Packet.{good, payloadOf}
+use Rattle.packet.proofs.Contents.{payload-short, payload-none, payload-part}
+use Rattle.calls.specs.declared.Refusal.{Refusal}
+use Rattle.calls.specs.declared.Refusal.the-variants.{Accepted, Unacceptable, WrongImage, WrongState, ShortReceive, ShortReply}
+use Rattle.calls.specs.Calls.{isAccepted}
+use Rattle.device.specs.Feed.{Delivery}
+use Rattle.interface.specs.Post.{Started, WasReset, Ran, Unfed, FedBy, Handed}
+
+-- starting and resetting: the same number and the same bytes
+module _ (profile : List ℕ) (n : ℕ) (before after after′ : List ℕ) (r r′ : ℕ) where
+  pub started-once : Started profile n before after r → Started profile n before after′ r′ → (r ≡ r′) × (after ≡ after′)
+  started-once a b = (one-answer (a .number) (b .number), one-answer (a .state) (b .state))
+
+  pub reset-once : WasReset profile n before after r → WasReset profile n before after′ r′ → (r ≡ r′) × (after ≡ after′)
+  reset-once a b = (one-answer (a .number) (b .number), one-answer (a .state) (b .state))
+
+-- what two outcomes of a feed have in common: all but the received bytes beyond the held ones
+pub record Same (d : Delivery) (im im′ st st′ rc rc′ rp rp′ : List ℕ) (r r′ used used′ got got′ : ℕ) : Type 0 where
+  pub number : r ≡ r′
+  pub state : st ≡ st′
+  pub image : im ≡ im′
+  pub held : take (d .machine .state .held) rc ≡ take (d .machine .state .held) rc′
+  pub reply : rp ≡ rp′
+  pub consumed : used ≡ used′
+  pub count : got ≡ got′
+
+-- feeding, for the same bytes at entry
+module _ (d : Delivery) (input im₀ im im′ st₀ st st′ rc₀ rc rc′ rp₀ rp rp′ : List ℕ) (r r′ used used′ got got′ : ℕ) where
+  ran-once : Ran d input im st rc₀ rc rp₀ rp r used got → Ran d input im′ st′ rc₀ rc′ rp₀ rp′ r′ used′ got′
+      → Same d im im′ st st′ rc rc′ rp rp′ r r′ used used′ got got′
+  ran-once a b =
+      record {
+        number = one-answer (a .number) (b .number);
+        state = one-answer (a .state) (b .state);
+        image = one-answer (a .image) (b .image);
+        held = one-answer (a .held) (b .held);
+        reply = one-answer (a .reply) (b .reply);
+        consumed = one-answer (a .consumed) (b .consumed);
+        count = one-answer (a .count) (b .count);
+      }
+
+  unfed-once : {row : Refusal} → Unfed row im₀ im st₀ st rc₀ rc rp₀ rp r used got → Unfed row im₀ im′ st₀ st′ rc₀ rc′ rp₀ rp′ r′ used′ got′
+      → Same d im im′ st st′ rc rc′ rp rp′ r r′ used used′ got got′
+  unfed-once a b =
+      record {
+        number = one-answer (a .number) (b .number);
+        state = one-answer (a .state) (b .state);
+        image = one-answer (a .image) (b .image);
+        held = ap (take (d .machine .state .held)) (one-answer (a .receive) (b .receive));
+        reply = one-answer (a .reply) (b .reply);
+        consumed = one-answer (a .consumed) (b .consumed);
+        count = one-answer (a .count) (b .count);
+      }
+
+  pub fed-once : (row : Refusal) → FedBy row d input im₀ im st₀ st rc₀ rc rp₀ rp r used got
+      → FedBy row d input im₀ im′ st₀ st′ rc₀ rc′ rp₀ rp′ r′ used′ got′ → Same d im im′ st st′ rc rc′ rp rp′ r r′ used used′ got got′
+  fed-once Accepted a b = ran-once a b
+  fed-once Unacceptable a b = unfed-once a b
+  fed-once WrongImage a b = unfed-once a b
+  fed-once WrongState a b = unfed-once a b
+  fed-once ShortReceive a b = unfed-once a b
+  fed-once ShortReply a b = unfed-once a b
+
+-- a refused feed leaves the whole receive buffer, and so does empty input
+module _ (d : Delivery) (input im₀ im st₀ st rc₀ rc rp₀ rp : List ℕ) (r used got : ℕ) where
+  pub refused-received : (row : Refusal) → isAccepted row ≡ false → FedBy row d input im₀ im st₀ st rc₀ rc rp₀ rp r used got → rc ≡ rc₀
+  refused-received Accepted e a = let z : _≡_ {A = ℕ} 0 1 = cc in absurd (omega arith)
+  refused-received Unacceptable e a = a .receive
+  refused-received WrongImage e a = a .receive
+  refused-received WrongState e a = a .receive
+  refused-received ShortReceive e a = a .receive
+  refused-received ShortReply e a = a .receive
+
+  pub idle-received : (row : Refusal) → length input ≡ 0 → FedBy row d input im₀ im st₀ st rc₀ rc rp₀ rp r used got → rc ≡ rc₀
+  idle-received Accepted e a = a .idle e
+  idle-received Unacceptable e a = a .receive
+  idle-received WrongImage e a = a .receive
+  idle-received WrongState e a = a .receive
+  idle-received ShortReceive e a = a .receive
+  idle-received ShortReply e a = a .receive
+
+-- where a payload stands
+pub handed-once : (receive : List ℕ) (n r r′ from from′ got got′ : ℕ) → Handed receive n r from got → Handed receive n r′ from′ got′
+    → (r ≡ r′) × ((from ≡ from′) × (got ≡ got′))
+handed-once receive n r r′ from from′ got got′ a b =
+    (one-answer (a .answer) (b .answer), (one-answer (a .start) (b .start), one-answer (a .count) (b .count)))
+
+-- as many as a part has, from where it begins
+take-own : (m : ℕ) (l : List ℕ) → take (length (take m l)) l ≡ take m l
+take-own zero l = refl
+take-own (suc m) [] = refl
+take-own (suc m) (x ∷ l) = ap (λ (k : List ℕ). x ∷ k) (take-own m l)
+
+-- the answers 0 and 1
+abbrev answerOf : Bool → ℕ
+answerOf t = cond t 0 1
+
+abbrev startAt : Bool → ℕ
+startAt t = cond t 0 3
+
+answers-0 : (l : List ℕ) → [] ≡ l → answerOf (eqb (length l) 0) ≡ 1 → ⊥
+answers-0 l e h = let z : _≡_ {A = ℕ} 0 1 = ap (λ (k : List ℕ). answerOf (eqb (length k) 0)) e ∙ h in omega arith
+
+answers-1 : (t : Bool) → answerOf t ≡ 1 → startAt t ≡ 3
+answers-1 true h = absurd (omega (arith, h))
+answers-1 false h = refl
+
+answers-none : (t : Bool) → answerOf t ≡ 0 → t ≡ true
+answers-none true h = refl
+answers-none false h = absurd (omega (arith, h))
+
+no-bytes : (l : List ℕ) → length l ≡ 0 → l ≡ []
+no-bytes [] e = refl
+no-bytes (x ∷ l) e = absurd (omega (arith, e))
+
+-- the answer 1: so many bytes from the start on are the payload
+module _ (receive : List ℕ) (n r from got : ℕ) (a : Handed receive n r from got) where
+  pub handed-part : r ≡ 1 → take got (drop from receive) ≡ payloadOf receive n
+  handed-part h = by (leb n (length receive)) refl (good (take n receive)) refl
+    where
+      one : answerOf (eqb (length (payloadOf receive n)) 0) ≡ 1
+      one = sym (a .answer) ∙ h
+
+      three : from ≡ 3
+      three = a .start ∙ answers-1 (eqb (length (payloadOf receive n)) 0) one
+
+      by : (t : Bool) → leb n (length receive) ≡ t → (g : Bool) → good (take n receive) ≡ g → take got (drop from receive) ≡ payloadOf receive n
+      by false t g e = absurd (answers-0 (payloadOf receive n) (payload-short receive n (leb-false n (length receive) t)) one)
+      by true t false e = absurd (answers-0 (payloadOf receive n) (payload-none receive n (leb-true n (length receive) t) e) one)
+      by true t true e =
+          let part : take (n - 2 - 3) (drop 3 receive) ≡ payloadOf receive n = payload-part receive n (leb-true n (length receive) t) e in
+          let many : got ≡ length (take (n - 2 - 3) (drop 3 receive)) = a .count ∙ ap length (sym part) in
+          ap (λ (k : ℕ). take k (drop from receive)) many
+          ∙ ap (λ (k : ℕ). take (length (take (n - 2 - 3) (drop 3 receive))) (drop k receive)) three
+          ∙ take-own (n - 2 - 3) (drop 3 receive)
+          ∙ part
+
+  -- the answer 0: there is none
+  pub handed-none : r ≡ 0 → (payloadOf receive n ≡ []) × ((from ≡ 0) × (got ≡ 0))
+  handed-none h =
+      let t : eqb (length (payloadOf receive n)) 0 ≡ true = answers-none (eqb (length (payloadOf receive n)) 0) (sym (a .answer) ∙ h) in
+      let z : length (payloadOf receive n) ≡ 0 = eqb-true (length (payloadOf receive n)) 0 t in
+      (no-bytes (payloadOf receive n) z, (a .start ∙ ap startAt t, a .count ∙ z))

@@ -1,0 +1,166 @@
+// The device for other languages: numbers and byte slices.
+ghost use mathlib.Core.Bool.{_||_, cond};
+ghost use mathlib.Core.Path.{_≡_};
+ghost use lib.Dec.{eqb};
+ghost use lib.ListN.{length};
+ghost use Rattle.verdict.specs.Check.{firstFault};
+ghost use Rattle.layout.specs.Profile.{profileIn};
+ghost use Rattle.layout.specs.State.{stateOver};
+ghost use Rattle.calls.specs.Calls.{feedRows, refusalOf, startedBy};
+ghost use Rattle.device.specs.Step.{machineOf};
+ghost use Rattle.device.specs.Feed.{feedOf};
+ghost use Rattle.interface.specs.Calls.{startRefusal, feedRefusal};
+ghost use Rattle.interface.specs.Post.{Started, WasReset, FedBy, deliveryOf, Handed};
+use device::Refusal;
+use layout::StageIn;
+use profile::Profile;
+use protocol::State;
+
+// Why a start with a profile's bytes and `room` bytes for the state is refused, and the state that it gives.
+fn begin(bytes: &[u8], image: &[u8], room: usize) -> device::Started
+    ensures { λ r. ⌜ r ≡ startedBy (startRefusal (now (bytes .entry)) (length (now (image .entry))) room) (profileIn (now (bytes .entry))) ⌝ }
+{
+    if bytes.len() != 156 {
+        return device::Started {
+            refusal: Refusal::Unacceptable,
+            state: device::zero(),
+        };
+    }
+    let p = layout::profile_in(bytes);
+    let begun = device::start(p, image);
+    let refusal = begun.refusal;
+    let number = device::number(refusal);
+    if number != 0 {
+        return begun;
+    }
+    if room != 33 {
+        return device::Started {
+            refusal: Refusal::WrongState,
+            state: device::zero(),
+        };
+    }
+    begun
+}
+
+// The state that a call gives, in the bytes that are lent for it; a refused call leaves them, unless `always`.
+fn put(state: &mut [u8], given: State, number: u8, always: bool)
+    ensures { λ _. ⌜ now (state .exit) ≡ cond (eqb number 0 || always) (stateOver given (now (state .entry))) (now (state .entry)) ⌝ }
+{
+    if number != 0 {
+        if !always {
+            return;
+        }
+    }
+    layout::put_state(state, given);
+}
+
+// A fresh state for a profile and an image; a refused start leaves the zero state.
+#[no_mangle]
+pub extern "C" fn indraveck_start(profile: &[u8], image: &[u8], state: &mut [u8]) -> u32
+    ensures { λ r. ⌜ Started (now (profile .entry)) (length (now (image .entry))) (now (state .entry)) (now (state .exit)) r ⌝ }
+{
+    let begun = begin(profile, image, state.len());
+    let first = begun.state;
+    let refusal = begun.refusal;
+    let number = device::number(refusal);
+    put(state, first, number, true);
+    number as u32
+}
+
+// The fresh state again; a refused reset leaves the bytes.
+#[no_mangle]
+pub extern "C" fn indraveck_reset(profile: &[u8], image: &[u8], state: &mut [u8]) -> u32
+    ensures { λ r. ⌜ WasReset (now (profile .entry)) (length (now (image .entry))) (now (state .entry)) (now (state .exit)) r ⌝ }
+{
+    let begun = begin(profile, image, state.len());
+    let again = begun.state;
+    let refusal = begun.refusal;
+    let number = device::number(refusal);
+    put(state, again, number, false);
+    number as u32
+}
+
+// Bytes for a state that was found in 33 bytes.
+fn feed_state(
+    p: Profile,
+    image: &mut [u8],
+    state: &mut [u8],
+    st: State,
+    receive: &mut [u8],
+    reply: &mut [u8],
+    input: &[u8],
+    consumed: &mut u64,
+    sent: &mut u64,
+) -> u32
+    requires { ⌜ length (now state) ≡ 33 ⌝ }
+    ensures { λ r. ⌜ FedBy (refusalOf (firstFault (feedRows p (length (now (image .entry))) st (now (receive .entry)) (length (now (reply .entry))))))
+        (feedOf p (machineOf (now (image .entry)) st (now (receive .entry))) (now (input .entry))) (now (input .entry))
+        (now (image .entry)) (now (image .exit)) (now (state .entry)) (now (state .exit)) (now (receive .entry)) (now (receive .exit)) (now (reply .entry)) (now (reply .exit))
+        r (now (consumed .exit)) (now (sent .exit)) ⌝ }
+{
+    let fed = device::feed(p, image, st, receive, reply, input);
+    let refusal = fed.refusal;
+    let number = device::number(refusal);
+    let next = fed.state;
+    put(state, next, number, false);
+    *consumed = fed.consumed as u64;
+    *sent = fed.count as u64;
+    number as u32
+}
+
+// Received bytes, up to the one that completes the first reply.
+#[no_mangle]
+pub extern "C" fn indraveck_feed(
+    profile: &[u8],
+    image: &mut [u8],
+    state: &mut [u8],
+    receive: &mut [u8],
+    reply: &mut [u8],
+    input: &[u8],
+    consumed: &mut u64,
+    sent: &mut u64,
+) -> u32
+    ensures { λ r. ⌜ FedBy (feedRefusal (now (profile .entry)) (length (now (image .entry))) (now (state .entry)) (now (receive .entry)) (length (now (reply .entry))))
+        (deliveryOf (now (profile .entry)) (now (image .entry)) (now (state .entry)) (now (receive .entry)) (now (input .entry))) (now (input .entry))
+        (now (image .entry)) (now (image .exit)) (now (state .entry)) (now (state .exit)) (now (receive .entry)) (now (receive .exit)) (now (reply .entry)) (now (reply .exit))
+        r (now (consumed .exit)) (now (sent .exit)) ⌝ }
+{
+    *consumed = 0;
+    *sent = 0;
+    if profile.len() != 156 {
+        return device::number(Refusal::Unacceptable) as u32;
+    }
+    let found = layout::stage_in(state);
+    match found {
+        StageIn::NoStage => {
+            let begun = begin(profile, image, 0);
+            let refusal = begun.refusal;
+            device::number(refusal) as u32
+        }
+        StageIn::Is(stage) => {
+            let p = layout::profile_in(profile);
+            let st = layout::state_in(state, stage);
+            feed_state(p, image, state, st, receive, reply, input, consumed, sent)
+        }
+    }
+}
+
+// Where the payload of the first `count` bytes of the receive buffer stands: 1, or 0 where it is empty.
+#[no_mangle]
+pub extern "C" fn indraveck_payload(
+    receive: &[u8],
+    count: usize,
+    start: &mut u64,
+    length: &mut u64,
+) -> u32
+    ensures { λ r. ⌜ Handed (now (receive .entry)) count r (now (start .exit)) (now (length .exit)) ⌝ }
+{
+    let part = packet::payload(receive, count);
+    *length = part.len() as u64;
+    if part.len() == 0 {
+        *start = 0;
+        return 0;
+    }
+    *start = 3;
+    1
+}

@@ -1,0 +1,110 @@
+//! The profile that a device is started with.
+
+/// The kind of an area; its numbers are the protocol's.
+#[derive(Clone, Copy, Debug, PartialEq, Eq)]
+pub enum Kind {
+    User,
+    Data,
+    Config,
+}
+
+impl Kind {
+    pub fn number(self) -> u8 {
+        match self {
+            Kind::User => 0,
+            Kind::Data => 1,
+            Kind::Config => 2,
+        }
+    }
+}
+
+/// An area of the flash: addresses `sad` to `ead`, both inclusive; units in bytes, 0 for none.
+#[derive(Clone, Copy, Debug, PartialEq, Eq)]
+pub struct Area {
+    pub kind: Kind,
+    pub sad: u32,
+    pub ead: u32,
+    pub eau: u32,
+    pub wau: u32,
+}
+
+impl Area {
+    /// How many bytes it has; none if it ends before it starts.
+    pub fn size(&self) -> u64 {
+        (u64::from(self.ead) + 1).saturating_sub(u64::from(self.sad))
+    }
+}
+
+/// What a device is: its areas and the numbers of its signature. Which profiles are acceptable is the library's to say.
+#[derive(Clone, Debug, PartialEq, Eq)]
+pub struct Profile {
+    pub areas: Vec<Area>,
+    pub sci: u32,
+    pub rmb: u32,
+    pub typ: u8,
+    pub bfv: u16,
+    /// Erase and write in user areas stay at or above `low` and below `high`; equal numbers are no limit.
+    pub low: u32,
+    pub high: u32,
+}
+
+pub const PROFILE_BYTES: usize = 156;
+pub const AREAS: usize = 8;
+
+impl Profile {
+    /// The image's length.
+    pub fn total(&self) -> u64 {
+        self.areas.iter().map(Area::size).sum()
+    }
+
+    /// The profile as the library takes it; `None` if there are more areas than fit.
+    pub fn to_bytes(&self) -> Option<[u8; PROFILE_BYTES]> {
+        if self.areas.len() > AREAS {
+            return None;
+        }
+        let mut bytes = [0; PROFILE_BYTES];
+        bytes[0] = self.areas.len() as u8;
+        bytes[1] = self.typ;
+        bytes[2..4].copy_from_slice(&self.bfv.to_be_bytes());
+        bytes[4..8].copy_from_slice(&self.sci.to_be_bytes());
+        bytes[8..12].copy_from_slice(&self.rmb.to_be_bytes());
+        bytes[12..16].copy_from_slice(&self.low.to_be_bytes());
+        bytes[16..20].copy_from_slice(&self.high.to_be_bytes());
+        for (area, at) in self.areas.iter().zip(bytes[20..].chunks_exact_mut(17)) {
+            at[0] = area.kind.number();
+            at[1..5].copy_from_slice(&area.sad.to_be_bytes());
+            at[5..9].copy_from_slice(&area.ead.to_be_bytes());
+            at[9..13].copy_from_slice(&area.eau.to_be_bytes());
+            at[13..17].copy_from_slice(&area.wau.to_be_bytes());
+        }
+        Some(bytes)
+    }
+
+    /// The bench profile: 64 KB of user area, 256 bytes of config, no window.
+    pub fn bench() -> Profile {
+        Profile {
+            areas: vec![
+                Area {
+                    kind: Kind::User,
+                    sad: 0,
+                    ead: 0xFFFF,
+                    eau: 0x2000,
+                    wau: 0x80,
+                },
+                Area {
+                    kind: Kind::Config,
+                    sad: 0x0100_0000,
+                    ead: 0x0100_00FF,
+                    eau: 0,
+                    wau: 0x10,
+                },
+            ],
+            sci: 60_000_000,
+            rmb: 4_000_000,
+            typ: 1,
+            bfv: 0x0100,
+            low: 0,
+            high: 0,
+        }
+    }
+}

@@ -1,0 +1,134 @@
+//! The four functions of `include/indraveck.h` on slices. Each takes any slices: what is wrong is refused with its number, and
+//! nothing but the slices is read or written. That is proved of the library, so the calls are safe.
+
+extern "C" {
+    fn indraveck_start(
+        profile: *const u8,
+        profile_len: usize,
+        image: *const u8,
+        image_len: usize,
+        state: *mut u8,
+        state_len: usize,
+    ) -> u32;
+    fn indraveck_reset(
+        profile: *const u8,
+        profile_len: usize,
+        image: *const u8,
+        image_len: usize,
+        state: *mut u8,
+        state_len: usize,
+    ) -> u32;
+    fn indraveck_feed(
+        profile: *const u8,
+        profile_len: usize,
+        image: *mut u8,
+        image_len: usize,
+        state: *mut u8,
+        state_len: usize,
+        receive: *mut u8,
+        receive_len: usize,
+        reply: *mut u8,
+        reply_len: usize,
+        input: *const u8,
+        input_len: usize,
+        consumed: *mut u64,
+        count: *mut u64,
+    ) -> u32;
+    fn indraveck_payload(
+        receive: *const u8,
+        receive_len: usize,
+        count: usize,
+        start: *mut u64,
+        length: *mut u64,
+    ) -> u32;
+}
+
+/// The number of the refusal, 0 for accepted, and what a feed consumed and answered.
+#[derive(Clone, Copy, Debug, PartialEq, Eq)]
+pub struct Fed {
+    pub refusal: u32,
+    pub consumed: usize,
+    pub count: usize,
+}
+
+pub fn start(profile: &[u8], image: &[u8], state: &mut [u8]) -> u32 {
+    unsafe {
+        indraveck_start(
+            profile.as_ptr(),
+            profile.len(),
+            image.as_ptr(),
+            image.len(),
+            state.as_mut_ptr(),
+            state.len(),
+        )
+    }
+}
+
+pub fn reset(profile: &[u8], image: &[u8], state: &mut [u8]) -> u32 {
+    unsafe {
+        indraveck_reset(
+            profile.as_ptr(),
+            profile.len(),
+            image.as_ptr(),
+            image.len(),
+            state.as_mut_ptr(),
+            state.len(),
+        )
+    }
+}
+
+pub fn feed(
+    profile: &[u8],
+    image: &mut [u8],
+    state: &mut [u8],
+    receive: &mut [u8],
+    reply: &mut [u8],
+    input: &[u8],
+) -> Fed {
+    let mut consumed = 0;
+    let mut count = 0;
+    let refusal = unsafe {
+        indraveck_feed(
+            profile.as_ptr(),
+            profile.len(),
+            image.as_mut_ptr(),
+            image.len(),
+            state.as_mut_ptr(),
+            state.len(),
+            receive.as_mut_ptr(),
+            receive.len(),
+            reply.as_mut_ptr(),
+            reply.len(),
+            input.as_ptr(),
+            input.len(),
+            &mut consumed,
+            &mut count,
+        )
+    };
+    // both are at most a slice's length
+    Fed {
+        refusal,
+        consumed: consumed as usize,
+        count: count as usize,
+    }
+}
+
+/// Where the payload stands in the receive buffer; `None` where it is empty.
+pub fn payload(receive: &[u8], count: usize) -> Option<std::ops::Range<usize>> {
+    let mut start = 0;
+    let mut length = 0;
+    let there = unsafe {
+        indraveck_payload(
+            receive.as_ptr(),
+            receive.len(),
+            count,
+            &mut start,
+            &mut length,
+        )
+    };
+    if there == 0 {
+        return None;
+    }
+    let start = start as usize;
+    Some(start..start + length as usize)
+}

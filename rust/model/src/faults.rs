@@ -1,0 +1,119 @@
+//! Deliberate errors, one each, to show that a comparison notices them.
+
+/// Tells the core which error to make. The right device's answer is a
+/// constant, so that its code holds no trace of the faults.
+pub(crate) trait Faults: Copy {
+    fn has(self, fault: Fault) -> bool;
+}
+
+/// The device without a fault.
+#[derive(Clone, Copy)]
+pub(crate) struct Right;
+
+impl Faults for Right {
+    #[inline(always)]
+    fn has(self, _: Fault) -> bool {
+        false
+    }
+}
+
+impl Faults for Option<Fault> {
+    #[inline]
+    fn has(self, fault: Fault) -> bool {
+        self == Some(fault)
+    }
+}
+
+/// Keeps the list of all faults in step with the enum.
+macro_rules! faults {
+    ($($(#[$doc:meta])* $name:ident,)*) => {
+        /// One way in which a device can be wrong.
+        #[derive(Clone, Copy, Debug, PartialEq, Eq, Hash)]
+        pub enum Fault {
+            $($(#[$doc])* $name,)*
+        }
+
+        impl Fault {
+            pub const ALL: &'static [Fault] = &[$(Fault::$name,)*];
+        }
+    };
+}
+
+faults! {
+    /// Answers every complete packet with C1h.
+    RefusesEveryRequest,
+    /// Answers every complete packet with OK, without any effect.
+    SaysOkToEverything,
+    /// Takes all input, does nothing and never replies.
+    SwallowsBytes,
+    /// Stores the first data packet of a write and only acknowledges the
+    /// others. The state has no place for this, so that it is remembered in
+    /// the top bit of ABCS while the write lasts.
+    StoresFirstPacketOnly,
+    /// Stores each data packet of a write at the same address.
+    WriteDoesNotAdvance,
+    /// Leaves the last byte of an erased range.
+    EraseOneByteShort,
+    /// Tests an erase by WAU instead of EAU.
+    EraseByWriteUnit,
+    /// Lets a range end at the window's high address.
+    WindowHighInclusive,
+    /// Takes low equal to high for a window that nothing passes.
+    EqualWindowIsClosed,
+    /// Applies the window to all kinds of areas.
+    WindowOnAllAreas,
+    /// Tests EAD instead of EAD + 1 for alignment.
+    AlignsEadItself,
+    /// Doesn't look at SUM.
+    SumNotChecked,
+    /// Looks at SUM before ETX.
+    EtxCheckedAfterSum,
+    /// Receives a command of length 257.
+    Length257Permitted,
+    /// Refuses a command of length 256.
+    Length256Refused,
+    /// Looks at the stage before the command's length.
+    StageBeforeLength,
+    /// Takes the total-erase code whatever latched bit 126 is.
+    Bit126Ignored,
+    /// Compares codes even if latched bit 127 is 0.
+    Bit127Ignored,
+    /// Leaves the config area in a total erase.
+    TotalEraseSparesConfig,
+    /// Goes to the command stage after a total erase.
+    TotalEraseWakesUp,
+    /// Latches the ID when it starts instead of with C3h.
+    IdLatchedAtStart,
+    /// Counts low pulses that are not in a row.
+    PulsesNotInARow,
+    /// Keeps the stage in a reset.
+    ResetKeepsStage,
+    /// Writes the units before the first one that isn't blank.
+    PartialWriteOnE2,
+    /// Doesn't look whether the target of a data packet is blank.
+    BlankCheckMissing,
+    /// Goes on with a write after an error.
+    ErrorKeepsWriting,
+    /// Sends 1,023 bytes in a full read packet.
+    ReadPacketOneShort,
+    /// Doesn't look at STS in the request for the next read packet.
+    ReadStatusIgnored,
+    /// Refuses a rate that is off by exactly 4 %.
+    FourPercentRefused,
+    /// Rounds the rate before it works out MDDR.
+    RateRoundedTwice,
+    /// Sets a refused rate's line setting all the same.
+    RefusedRateIsSet,
+    /// Says that one byte fewer was consumed for a reply.
+    ConsumedOneTooFew,
+    /// Says that the bytes behind a reply were consumed.
+    ConsumesUnreadBytes,
+    /// Refuses a short receive buffer before a state that doesn't fit.
+    RefusalTwoBeforeFive,
+    /// Refuses a wrong image before an unacceptable profile.
+    RefusalOneBeforeFour,
+    /// Gives a fresh state with a refused start.
+    RefusedStartIsFresh,
+    /// Clears the reply buffer behind the reply.
+    ReplyTailCleared,
+}

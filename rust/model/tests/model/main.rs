@@ -1,0 +1,10 @@
+//! The scope document's examples and the makers' vectors, as tables.
+
+mod bench;
+mod calls;
+mod examples;
+mod faults;
+mod profiles;
+mod rates;
+mod record;
+mod vectors;
