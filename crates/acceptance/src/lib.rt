@@ -3,8 +3,9 @@ ghost use mathlib.Core.Path.{_≡_};
 ghost use mathlib.Core.List.{_++_};
 ghost use Prim.Native.Nat.{_≤_, _<_, _+_};
 ghost use Rattle.verdict.specs.Check.{firstFault};
-ghost use Rattle.profile.specs.Areas.{areasOf, tally};
+ghost use Rattle.profile.specs.Areas.{areasOf};
 ghost use Rattle.acceptance.specs.Rules.{unitFits, acceptanceOf, headChecks, areaChecks, tableChecks, config, smallConfig, tailChecks, profileChecks};
+ghost use Rattle.acceptance.specs.Tallies.{Tallied};
 use profile::Area;
 use profile::Profile;
 
@@ -39,6 +40,13 @@ pub enum Rule {
 pub enum Acceptance {
     Acceptable,
     Breaks(Rule),
+}
+
+// The config areas, those of them that are too small, and the image's length.
+struct Tallies {
+    configs: usize,
+    small: usize,
+    total: usize,
 }
 
 // Whether the unit is 0, or divides the area's start and size.
@@ -140,44 +148,40 @@ fn one_if_small(area: Area) -> usize
     0
 }
 
-fn count_configs(profile: Profile) -> usize
-    ensures { λ r. ⌜ r ≡ tally config (areasOf profile) ⌝ }
+// One walk over the areas in use for all that their table is counted for.
+fn tally_areas(profile: Profile) -> Tallies
+    ensures { λ r. ⌜ Tallied (areasOf profile) r ⌝ }
 {
     let n = profile::used(profile.noa);
-    let mut count: usize = 0;
+    let mut configs: usize = 0;
+    let mut small: usize = 0;
+    let mut total: usize = 0;
     let mut i = 0;
     while i < n {
         let area = profile.areas[i];
-        count += one_if_config(area);
+        configs += one_if_config(area);
+        small += one_if_small(area);
+        total += profile::size(area);
         i += 1;
     }
-    count
-}
-
-fn count_small(profile: Profile) -> usize
-    ensures { λ r. ⌜ r ≡ tally smallConfig (areasOf profile) ⌝ }
-{
-    let n = profile::used(profile.noa);
-    let mut count: usize = 0;
-    let mut i = 0;
-    while i < n {
-        let area = profile.areas[i];
-        count += one_if_small(area);
-        i += 1;
+    Tallies {
+        configs,
+        small,
+        total,
     }
-    count
 }
 
 fn check_tail(profile: Profile) -> Acceptance
     ensures { λ r. ⌜ r ≡ acceptanceOf (firstFault (tailChecks profile)) ⌝ }
 {
-    if count_configs(profile) != 1 {
+    let counted = tally_areas(profile);
+    if counted.configs != 1 {
         return Acceptance::Breaks(Rule::ConfigCount);
     }
-    if count_small(profile) != 0 {
+    if counted.small != 0 {
         return Acceptance::Breaks(Rule::ConfigSize);
     }
-    if 16777216 < profile::total(profile) {
+    if 16777216 < counted.total {
         return Acceptance::Breaks(Rule::TooLarge);
     }
     if profile.window.high < profile.window.low {

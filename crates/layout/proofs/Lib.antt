@@ -1,3 +1,4 @@
+pub mod AreaLaws
 pub mod FieldLaws
 pub mod ProfileRoundTrip
 pub mod Put

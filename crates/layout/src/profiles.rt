@@ -33,19 +33,24 @@ fn area_at(bytes: &[u8], at: usize) -> Area
     }
 }
 
+// The eight areas, each read and stored before the next.
 fn areas_in(bytes: &[u8]) -> [Area; 8]
     ensures { λ r. ⌜ r ≡ areasFrom 8 20 (now (bytes .entry)) ⌝ }
 {
-    [
-        area_at(bytes, 20),
-        area_at(bytes, 37),
-        area_at(bytes, 54),
-        area_at(bytes, 71),
-        area_at(bytes, 88),
-        area_at(bytes, 105),
-        area_at(bytes, 122),
-        area_at(bytes, 139),
-    ]
+    let none = Area {
+        koa: 0,
+        sad: 0,
+        ead: 0,
+        eau: 0,
+        wau: 0,
+    };
+    let mut areas = [none; 8];
+    let mut i = 0;
+    while i < 8 {
+        areas[i] = area_at(bytes, 20 + 17 * i);
+        i += 1;
+    }
+    areas
 }
 
 // The profile in the bytes; what they lack counts as 0.

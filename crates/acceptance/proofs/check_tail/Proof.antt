@@ -7,32 +7,26 @@ use Rattle.acceptance.specs.Rules.{tailChecks}
 use Rattle.acceptance.proofs.check_tail.Statement.{statement}
 use Rattle.acceptance.proofs.check_tail.Tie as tie
 
-count-configs-requires : tie.Need-count-configs-requires
-count-configs-requires c κs = search needs
+tally-areas-requires : tie.Need-tally-areas-requires
+tally-areas-requires c κs = search needs
 
 returns : tie.Need-returns
 unfolding firstFault tailChecks
-returns c = simp (sym (c .before .count-configs .ensures), ne-eqb _ _ (c .if1 .taken))
-
-count-small-requires : tie.Need-count-small-requires
-count-small-requires c κs = search needs
+returns c = simp (sym (c .before .before .tally-areas .ensures .configs-are), ne-eqb _ _ (c .if1 .taken))
 
 returns-2 : tie.Need-returns-2
 unfolding firstFault tailChecks
-returns-2 c = simp (sym (c .before .before .before .count-configs .ensures), eq-eqb _ _ (c .before .before .if1 .left), sym (c .before .count-small .ensures), ne-eqb _ _ (c .if2 .taken))
-
-total-requires : tie.Need-total-requires
-total-requires c κs = search needs
+returns-2 c = simp (sym (c .before .before .before .before .tally-areas .ensures .configs-are), eq-eqb _ _ (c .before .before .if1 .left), sym (c .before .before .before .before .tally-areas .ensures .small-are), ne-eqb _ _ (c .if2 .taken))
 
 returns-3 : tie.Need-returns-3
 unfolding firstFault tailChecks
 returns-3 c =
     simp (
-      sym (c .before .before .before .before .before .count-configs .ensures),
+      sym (c .before .before .before .before .before .before .tally-areas .ensures .configs-are),
       eq-eqb _ _ (c .before .before .before .before .if1 .left),
-      sym (c .before .before .before .count-small .ensures),
+      sym (c .before .before .before .before .before .before .tally-areas .ensures .small-are),
       eq-eqb _ _ (c .before .before .if2 .left),
-      sym (c .before .total .ensures .0),
+      sym (c .before .before .before .before .before .before .tally-areas .ensures .total-is),
       lt-ltb _ _ (c .if3 .taken),
     )
 
@@ -40,11 +34,11 @@ returns-4 : tie.Need-returns-4
 unfolding firstFault tailChecks
 returns-4 c =
     simp (
-      sym (c .before .before .before .before .before .before .before .count-configs .ensures),
+      sym (c .before .before .before .before .before .before .before .before .tally-areas .ensures .configs-are),
       eq-eqb _ _ (c .before .before .before .before .before .before .if1 .left),
-      sym (c .before .before .before .before .before .count-small .ensures),
+      sym (c .before .before .before .before .before .before .before .before .tally-areas .ensures .small-are),
       eq-eqb _ _ (c .before .before .before .before .if2 .left),
-      sym (c .before .before .before .total .ensures .0),
+      sym (c .before .before .before .before .before .before .before .before .tally-areas .ensures .total-is),
       le-ltb _ _ (c .before .before .if3 .left),
       lt-ltb _ _ (c .if4 .taken),
     )
@@ -53,24 +47,14 @@ returns-5 : tie.Need-returns-5
 unfolding firstFault tailChecks
 returns-5 c =
     simp (
-      sym (c .before .before .before .before .before .before .before .count-configs .ensures),
+      sym (c .before .before .before .before .before .before .before .before .tally-areas .ensures .configs-are),
       eq-eqb _ _ (c .before .before .before .before .before .before .if1 .left),
-      sym (c .before .before .before .before .before .count-small .ensures),
+      sym (c .before .before .before .before .before .before .before .before .tally-areas .ensures .small-are),
       eq-eqb _ _ (c .before .before .before .before .if2 .left),
-      sym (c .before .before .before .total .ensures .0),
+      sym (c .before .before .before .before .before .before .before .before .tally-areas .ensures .total-is),
       le-ltb _ _ (c .before .before .if3 .left),
       le-ltb _ _ (c .if4 .left),
     )
 
 pub check-tail-spec : {M : Type 1} → statement M
-check-tail-spec =
-    tie.close
-    (tie.spec
-    count-configs-requires
-    returns
-    count-small-requires
-    returns-2
-    total-requires
-    returns-3
-    returns-4
-    returns-5)
+check-tail-spec = tie.close (tie.spec tally-areas-requires returns returns-2 returns-3 returns-4 returns-5)
