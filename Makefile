@@ -2,7 +2,7 @@
 CARGO := ./cargo
 export INDRAVECK_HOST := $(shell uname -m)
 
-.PHONY: help library test long-test bench fmt fmt-check
+.PHONY: help library test test-c long-test bench fmt fmt-check
 
 help:
 	@echo "make library    proves and builds the library that C and Rust link"
@@ -13,8 +13,21 @@ help:
 library:
 	rt staticlib interface
 
-test: library
+ifeq ($(shell uname -m),x86_64)
+CC_X86 := gcc
+RUN_X86 :=
+else
+CC_X86 := x86_64-linux-gnu-gcc
+RUN_X86 := qemu-x86_64
+endif
+
+test: library test-c
 	$(CARGO) test --offline --release
+
+test-c: library
+	./setup
+	$(CC_X86) -std=c99 -Wall -Wextra -Werror -O1 -Iinclude tests/c/calls.c target/staticlib/libinterface.a -o target/calls
+	$(RUN_X86) target/calls
 
 long-test: library
 	HISTORIES=1000000 $(CARGO) test --offline --release -p indraveck-evidence --test histories -- --nocapture
