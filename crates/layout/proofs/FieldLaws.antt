@@ -12,7 +12,7 @@ use Rattle.protocol.specs.Commands.{valueOf, fourAt}
 use Rattle.layout.specs.Fields.{twoAt, bytesFrom}
 use Rattle.layout.proofs.Spelled.{from-part}
 
-value-read : (w at : ℕ) (bs : List ℕ) → at + w ≤ length bs → valueOf (numberAt w bs at) ≡ number (field w at bs)
+pub value-read : (w at : ℕ) (bs : List ℕ) → at + w ≤ length bs → valueOf (numberAt w bs at) ≡ number (field w at bs)
 unfolding numberAt
 value-read w at bs h = rw (le-leb (at + w) (length bs) h) refl
 

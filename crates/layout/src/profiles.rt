@@ -19,8 +19,21 @@ fn two_at(bytes: &[u8], at: usize) -> u16
     }
 }
 
-// The area in the 17 bytes from a place on.
-fn area_at(bytes: &[u8], at: usize) -> Area
+// The area in 17 bytes of its own.
+fn area_of(part: &[u8]) -> Area
+    ensures { λ r. ⌜ r ≡ areaAt (now (part .entry)) 0 ⌝ }
+{
+    Area {
+        koa: protocol::byte_at(part, 0),
+        sad: protocol::four_at(part, 1),
+        ead: protocol::four_at(part, 5),
+        eau: protocol::four_at(part, 9),
+        wau: protocol::four_at(part, 13),
+    }
+}
+
+// The area from a place on, where the bytes may end before it does.
+fn area_cut(bytes: &[u8], at: usize) -> Area
     requires { ⌜ at ≤ 139 ⌝ }
     ensures { λ r. ⌜ r ≡ areaAt (now (bytes .entry)) at ⌝ }
 {
@@ -30,6 +43,19 @@ fn area_at(bytes: &[u8], at: usize) -> Area
         ead: protocol::four_at(bytes, at + 5),
         eau: protocol::four_at(bytes, at + 9),
         wau: protocol::four_at(bytes, at + 13),
+    }
+}
+
+// The area in the 17 bytes from a place on: whole bytes are cut out once, so that each field's length test is known.
+fn area_at(bytes: &[u8], at: usize) -> Area
+    requires { ⌜ at ≤ 139 ⌝ }
+    ensures { λ r. ⌜ r ≡ areaAt (now (bytes .entry)) at ⌝ }
+{
+    let end = at + 17;
+    if bytes.len() >= end {
+        area_of(&bytes[at..end])
+    } else {
+        area_cut(bytes, at)
     }
 }
 

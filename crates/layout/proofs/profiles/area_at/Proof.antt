@@ -1,50 +1,47 @@
--- `layout::profiles::area_at` meets its contract. Each field is read at its place. Assumes nothing.
-use mathlib.Core.Path.{refl}
+-- `layout::profiles::area_at` meets its contract. An area in 17 bytes that were cut out is the one in the bytes. Assumes nothing.
+use mathlib.Core.Path.{_∙_}
+use Prim.Native.Nat.{_+_, _-_}
+use native.Mathlib.Omega.{arith}
 use borrow.Author.Needs.{needs}
+use Rattle.layout.proofs.AreaLaws.{area-part}
 use Rattle.layout.proofs.profiles.area_at.Statement.{statement}
 use Rattle.layout.proofs.profiles.area_at.Tie as tie
 
-byte-at-requires : tie.Need-byte-at-requires
-byte-at-requires c κs = search needs
+add-end : tie.Need-add-end
+add-end c = search needs
 
-add-four-at : tie.Need-add-four-at
-add-four-at c = search needs
+sub-area-of : tie.Need-sub-area-of
+sub-area-of c = search needs
 
-four-at-requires : tie.Need-four-at-requires
-four-at-requires c κs = search needs
+part-area-of-start : tie.Need-part-area-of-start
+part-area-of-start c = search needs
 
-add-four-at-2 : tie.Need-add-four-at-2
-add-four-at-2 c = search needs
+part-area-of-end : tie.Need-part-area-of-end
+part-area-of-end c = search needs
 
-four-at-requires-2 : tie.Need-four-at-requires-2
-four-at-requires-2 c κs = search needs
+area-of-requires : tie.Need-area-of-requires
+area-of-requires c κs = search needs
 
-add-four-at-3 : tie.Need-add-four-at-3
-add-four-at-3 c = search needs
-
-four-at-requires-3 : tie.Need-four-at-requires-3
-four-at-requires-3 c κs = search needs
-
-add-four-at-4 : tie.Need-add-four-at-4
-add-four-at-4 c = search needs
-
-four-at-requires-4 : tie.Need-four-at-requires-4
-four-at-requires-4 c κs = search needs
+area-cut-requires : tie.Need-area-cut-requires
+area-cut-requires c κs = search needs
 
 returns : tie.Need-returns
-returns c = rw (c .before .before .before .before .byte-at .ensures, c .before .before .before .four-at .ensures, c .before .before .four-at2 .ensures, c .before .four-at3 .ensures, c .four-at4 .ensures) refl
+returns c =
+    let a = c .before .before .before .before .args in
+    c .area-of .ensures ∙ area-part (a .at + 17 - a .at) (a .at) (a .bytes .now) (omega arith) (c .before .before .if1 .taken)
+
+returns-2 : tie.Need-returns-2
+returns-2 c = search needs
 
 pub area-at-spec : {M : Type 1} → statement M
 area-at-spec =
     tie.close
     (tie.spec
-    byte-at-requires
-    add-four-at
-    four-at-requires
-    add-four-at-2
-    four-at-requires-2
-    add-four-at-3
-    four-at-requires-3
-    add-four-at-4
-    four-at-requires-4
-    returns)
+    add-end
+    sub-area-of
+    part-area-of-start
+    part-area-of-end
+    area-of-requires
+    area-cut-requires
+    returns
+    returns-2)
