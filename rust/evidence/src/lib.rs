@@ -1,0 +1,30 @@
+//! The proved library beside an independent model.
+//!
+//! A [`Line`] lends both the same bytes, makes the same calls on both and compares everything that comes back. [`histories`] makes
+//! random calls, [`systematic`] goes through the boundaries one by one, and [`session`] is what the benchmarks measure.
+
+mod effects;
+mod guarded;
+pub mod histories;
+mod line;
+mod noise;
+pub mod packets;
+pub mod profiles;
+pub mod session;
+mod subject;
+pub mod systematic;
+
+pub use effects::Effects;
+pub use line::{Lent, Line, Pair};
+pub use noise::Noise;
+#[cfg(feature = "proved")]
+pub use subject::Proved;
+pub use subject::{Fed, Model, Subject, BUFFER_BYTES, PROFILE_BYTES, STATE_BYTES};
+
+/// What the tests compare with the model: the proved library, or where it isn't linked the model itself.
+pub fn tested() -> Box<dyn Subject> {
+    #[cfg(feature = "proved")]
+    return Box::new(Proved);
+    #[cfg(not(feature = "proved"))]
+    return Box::new(Model(None));
+}
