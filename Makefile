@@ -2,12 +2,13 @@
 CARGO := ./cargo
 export INDRAVECK_HOST := $(shell uname -m)
 
-.PHONY: help library test test-c long-test bench fmt fmt-check
+.PHONY: help library test test-c long-test more-edits bench fmt fmt-check
 
 help:
 	@echo "make library    proves and builds the library that C and Rust link"
 	@echo "make test       compares it with the independent model: 20,000 random histories and the systematic ones"
 	@echo "make long-test  the same with a million"
+	@echo "make more-edits the wrong versions that the gate leaves out for time"
 	@echo "make bench      measures both in one run and prints the ratios"
 
 library:
@@ -32,8 +33,11 @@ test-c: library
 long-test: library
 	HISTORIES=1000000 $(CARGO) test --offline --release -p indraveck-evidence --test histories -- --nocapture
 
+more-edits:
+	./more-edits
+
 bench: library
-	$(CARGO) bench --offline -p indraveck-evidence
+	$(CARGO) bench --offline -p indraveck-benchmarks
 
 RUST_FILES = $(shell git ls-files 'rust/*.rs')
 

@@ -162,7 +162,7 @@ fn numbers() -> impl Strategy<Value = Numbers> {
 
 fn action((kind, a, b, c, d, e): Numbers) -> Action {
     let delivery = delivery(d);
-    let flaws = [flaw(e), flaw(e >> 16)];
+    let flaws = [flaw(e >> 16), flaw(e & 0xFFFF)];
     match kind {
         0..=51 => Action::Suitable {
             choice: a,
@@ -200,9 +200,10 @@ fn action((kind, a, b, c, d, e): Numbers) -> Action {
     }
 }
 
+/// Numbers shrink towards 0, so that the top bits choose and small ones stand for the plain case.
 fn delivery(number: u32) -> Delivery {
-    let at = number >> 4;
-    match number & 0xF {
+    let at = number & 0x0FFF_FFFF;
+    match number >> 28 {
         0..=8 => Delivery::Whole,
         9 => Delivery::UnreadLost,
         10 => Delivery::Bytes,
@@ -214,16 +215,17 @@ fn delivery(number: u32) -> Delivery {
     }
 }
 
+/// Of 16 bits; again the top ones choose.
 fn flaw(number: u32) -> Flaw {
-    let by = (number >> 8) as u8;
-    match number & 0x1F {
+    let by = number as u8;
+    match number >> 11 {
         22 | 23 => Flaw::Etx(by),
         24 | 25 => Flaw::Sum(by),
         26 => Flaw::Length(u16::from(by)),
         27 => Flaw::Length([0, 1, 2, 256, 257, 1025, 1026, 0xFFFF][usize::from(by) % 8]),
         28 => Flaw::Start([0x00, 0x01, 0x81, 0x55][usize::from(by) % 4]),
         29..=31 => Flaw::Content {
-            place: number >> 5,
+            place: number & 0x7FF,
             by,
         },
         _ => Flaw::None,
@@ -524,7 +526,7 @@ impl<'a> Player<'a> {
                 delivery,
             } => {
                 let mut bytes = match choice % 16 {
-                    10 => packets::data(packets::READ, &[1 << (choice / 16 % 8)]),
+                    6..=10 => packets::data(packets::READ, &[1 << (choice / 16 % 8)]),
                     11 => packets::data(packets::READ, &[]),
                     12 => packets::data(packets::READ, &[0, 0]),
                     13 => packets::data(packets::READ | 0x80, &[0]),
@@ -737,6 +739,7 @@ impl<'a> Player<'a> {
             packets::BAUD_RATE => {
                 let rate = match noise.below(8) {
                     0 => noise.number() as u32 >> noise.below(32),
+                    1 => profiles::four_percent_off(self.profile.sci)[noise.below(2)],
                     _ => noise.pick(&self.choices.rates),
                 };
                 rate.to_be_bytes().to_vec()

@@ -519,7 +519,7 @@ impl<'a> Line<'a> {
             None => self.model.receive.lent()[..before.held as usize].to_vec(),
         };
         begun.extend_from_slice(new);
-        // neither costs much, but every packet has its own count
+        // each count takes a copy of the buffer, so that those beside a packet's own are asked for at every fourth call
         let looked_at = self.calls % 4 == 0;
         if fed.count == 0 {
             if after.held > 0 {

@@ -164,6 +164,11 @@ pub fn granted(
     Some((start as u32, (start + taken * unit - 1) as u32))
 }
 
+/// Rates that are exactly 4 % off for clocks that divide: above what SCI can divide, and below what M can slow down to.
+pub fn four_percent_off(sci: u32) -> [u32; 2] {
+    [384, 425_984].map(|divisor| (u64::from(sci) * 25 / divisor) as u32)
+}
+
 /// Rates near every place where the setting or its refusal turns, for this clock.
 pub fn rates(sci: u32, rmb: u32) -> Vec<u32> {
     let clock = u64::from(sci);
@@ -174,8 +179,7 @@ pub fn rates(sci: u32, rmb: u32) -> Vec<u32> {
     // ABCS turns, BRR turns, BRR at its end
     points.extend([clock / 16, clock / 32, clock / 64, clock / 96]);
     points.extend([clock / (32 * 256), clock / (64 * 256)]);
-    // exactly 4 % off above what divides, and below what M can slow down to
-    points.extend([clock * 25 / 384, clock * 25 / 425_984]);
+    points.extend(four_percent_off(sci).map(u64::from));
     let sides = points
         .into_iter()
         .flat_map(|point| [point.saturating_sub(1), point, point + 1]);

@@ -428,9 +428,10 @@ fn cuts(pair: &Pair) -> Outcome {
         for flaw in [Flaw::None, Flaw::Etx(7), Flaw::Sum(1)] {
             let mut packet = packet.clone();
             flaw.apply(&mut packet);
-            // long packets are cut near their ends and at some places between
-            let places =
-                (0..=packet.len()).filter(|at| *at < 20 || at + 20 > packet.len() || at % 37 == 0);
+            // a damaged packet is cut as a right one: near its ends and at some places between is enough
+            let all = flaw == Flaw::None;
+            let places = (0..=packet.len())
+                .filter(|at| all || *at < 20 || at + 20 > packet.len() || at % 37 == 0);
             for at in places {
                 let mut line = placed(pair, &profile, spotted_where_written(&profile), stage);
                 line.feed(&packet[..at])?;

@@ -1,6 +1,6 @@
 //! Whole sessions and their parts, subject by subject.
 
-use criterion::{criterion_group, criterion_main, BatchSize, BenchmarkId, Criterion, Throughput};
+use criterion::{criterion_group, criterion_main, BenchmarkId, Criterion, Throughput};
 use indraveck_evidence::session::{machine, Delivery, Memory, Session, DELIVERIES};
 #[cfg(feature = "proved")]
 use indraveck_evidence::Proved;
@@ -85,13 +85,9 @@ fn parts(c: &mut Criterion) {
     group.bench_function("copy out", |b| {
         b.iter(|| session.copy_out_plainly(&mut memory))
     });
-    group.bench_function("compare", |b| {
-        b.iter_batched(
-            || (),
-            |()| session.compare_plainly(&memory),
-            BatchSize::SmallInput,
-        )
-    });
+    // a target that differs early would be no limit of a whole one
+    session.spoil(&mut memory);
+    group.bench_function("compare", |b| b.iter(|| session.compare_plainly(&memory)));
     group.finish();
 }
 
@@ -99,8 +95,10 @@ criterion_group! {
     name = benches;
     config = Criterion::default()
         .sample_size(10)
-        .warm_up_time(Duration::from_millis(200))
-        .measurement_time(Duration::from_secs(1))
+        .warm_up_time(Duration::from_millis(100))
+        .measurement_time(Duration::from_millis(500))
+        // the default of 100,000 takes minutes for each row under an emulator
+        .nresamples(1_001)
         .without_plots();
     targets = sessions, parts
 }
