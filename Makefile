@@ -39,7 +39,7 @@ more-edits:
 bench: library
 	$(CARGO) bench --offline -p indraveck-benchmarks
 
-RUST_FILES = $(shell git ls-files 'rust/*.rs')
+RUST_FILES = $(shell find rust -name '*.rs' -not -path '*/target/*')
 
 fmt:
 	rt fmt
