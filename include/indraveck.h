@@ -1,12 +1,12 @@
 /* The proved stand-in for a microcontroller in serial boot mode, for C.
  *
- * Link target/staticlib/libinterface.a (made by `make library`).
+ * Link target/staticlib/libinterface.a, and libinterface_replay.a beside it for the replay (made by `make library`).
  *
  * Every slice passes as a pointer and a length. Any slices may be passed that are really lent: wrong lengths and contents are
  * refused with their number, and nothing past a lent slice is touched. Slices must not overlap each other. A slice of length 0
  * may have any pointer. All numbers in profile and state go high byte first.
  *
- * start, reset and feed answer 0 for an accepted call, otherwise the number of the refusal, the first that applies in this order:
+ * start, reset, feed and replay answer 0 for an accepted call, otherwise the number of the refusal, the first that applies in this order:
  *   4  the profile is not acceptable, or is not 156 bytes
  *   1  the image is not as long as the profile's areas together
  *   5  the state does not fit, is no state, or is not 33 bytes
@@ -58,6 +58,17 @@ uint32_t indraveck_feed(const uint8_t *profile, size_t profile_len,
  * start and length 0 where it is empty, that is unless these bytes are exactly one whole packet with right length, ETX and SUM. */
 uint32_t indraveck_payload(const uint8_t *receive, size_t receive_len, size_t count,
                            uint64_t *start, uint64_t *length);
+
+/* Replays a recorded line on the image: what each request that was answered OK erased or wrote. `read` is always written: how many of
+ * the recording's bytes could be read, all unless there is a record that cannot be, with which the reading ends. A refused replay
+ * (4 or 1) writes 0 there and leaves the image.
+ *
+ * A recording is records one behind the other: a mark 52h 4Ch, a direction (48h host, 44h device, 52h reset), a length in two bytes,
+ * high byte first, and that many bytes. Each request is one host record, with the reply as the device record right behind it. */
+uint32_t indraveck_replay(const uint8_t *profile, size_t profile_len,
+                          uint8_t *image, size_t image_len,
+                          const uint8_t *recording, size_t recording_len,
+                          uint64_t *read);
 
 #ifdef __cplusplus
 }

@@ -37,6 +37,29 @@ static void small_profile(uint8_t *profile)
     put_four(profile + 37 + 5, 0x100F);
 }
 
+/* A recording of an erase of 10h to 1Fh that was answered OK changes the image; a refusal leaves it. */
+static void replays(const uint8_t *profile)
+{
+    static const uint8_t recording[] = {
+        0x52, 0x4C, 0x48, 0x00, 0x0E, 0x01, 0x00, 0x09, 0x12, 0x00, 0x00, 0x00, 0x10, 0x00, 0x00, 0x00, 0x1F, 0xB6, 0x03,
+        0x52, 0x4C, 0x44, 0x00, 0x07, 0x81, 0x00, 0x02, 0x12, 0x00, 0xEC, 0x03};
+    uint8_t image[80], before[80], expected[80];
+    uint64_t read = 99;
+
+    memset(image, 0x5A, sizeof image);
+    memcpy(before, image, sizeof image);
+    memcpy(expected, image, sizeof image);
+    memset(expected + 0x10, 0xFF, 0x10);
+    check(indraveck_replay(profile, 155, image, 80, recording, 31, &read) == 4 && read == 0, "a replay with a short profile is refusal 4");
+    read = 99;
+    check(indraveck_replay(profile, 156, image, 79, recording, 31, &read) == 1 && read == 0, "a replay on a short image is refusal 1");
+    check(memcmp(image, before, 80) == 0, "a refused replay leaves the image");
+    check(indraveck_replay(profile, 156, image, 80, recording, 30, &read) == 0 && read == 19, "a record that is cut is not read");
+    check(memcmp(image, before, 80) == 0, "an erase without its answer changes nothing");
+    check(indraveck_replay(profile, 156, image, 80, recording, 31, &read) == 0 && read == 31, "a whole recording is read");
+    check(memcmp(image, expected, 80) == 0, "an erase that was answered OK is replayed");
+}
+
 int main(void)
 {
     uint8_t profile[INDRAVECK_PROFILE_BYTES], state[INDRAVECK_STATE_BYTES];
@@ -70,6 +93,7 @@ int main(void)
     check(indraveck_payload(receive, 1030, 6, &consumed, &count) == 1 && consumed == 3 && count == 1, "its payload is COM");
     check(indraveck_payload(receive, 1030, 5, &consumed, &count) == 0 && consumed == 0 && count == 0, "five bytes are no packet");
     check(indraveck_reset(profile, 156, image, 80, state, 33) == 0 && state[0] == 0, "reset leads to setting");
+    replays(profile);
     if (failures == 0)
         printf("the library answers C as its header says\n");
     return failures != 0;

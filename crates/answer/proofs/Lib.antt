@@ -1,5 +1,1 @@
 pub mod Sending
-pub mod Reading
-pub mod Writing
-pub mod Spans
-pub mod Granting

@@ -11,7 +11,7 @@ use Rattle.packet.proofs.Frames.{frame-length}
 use Rattle.reply.specs.Reply.{hasRoom, Placed, front}
 use Rattle.reply.proofs.Laws.{room}
 use Rattle.reply.proofs.Replies.{answered}
-use Rattle.protocol.specs.declared.State.{State}
+use Rattle.state.specs.declared.State.{State}
 use Rattle.answer.specs.declared.Answered.{Answered}
 use Rattle.answer.specs.Answer.{Answer}
 use Rattle.answer.specs.Post.{Left, Sent}

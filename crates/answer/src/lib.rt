@@ -1,17 +1,48 @@
-// What a complete packet is answered: verdict, effect on the image, next state and reply.
-mod commands;
-mod replies;
-mod transfer;
-
-pub use commands::answer_command;
-use protocol::State;
-pub use replies::in_stage;
-pub use replies::tell;
-pub use transfer::answer_next;
-pub use transfer::answer_write;
+// What answering leaves: a reply at the front of the reply buffer, with the state that follows it.
+ghost use mathlib.Core.Path.{_≡_};
+ghost use Prim.Native.Nat.{_≤_};
+ghost use lib.ListN.{length};
+ghost use Rattle.reply.specs.Reply.{statusReply, dataReply};
+ghost use Rattle.answer.specs.Answer.{moved};
+ghost use Rattle.answer.specs.Post.{Sent};
+use state::Stage;
+use state::State;
+use verdict::Verdict;
 
 // The state after a request, and how long the reply is.
 pub struct Answered {
     pub state: State,
     pub count: usize,
+}
+
+// The state in a stage, with nothing held.
+pub fn in_stage(state: State, stage: Stage) -> State
+    ensures { λ r. ⌜ r ≡ moved stage state ⌝ }
+{
+    let id = state.id;
+    let line = state.line;
+    State {
+        stage,
+        id,
+        line,
+        held: 0,
+    }
+}
+
+// A status reply to a request with this COM or RES.
+pub fn tell(reply: &mut [u8], state: State, request: u8, verdict: Verdict) -> Answered
+    requires { ⌜ 1030 ≤ length (now reply) ⌝ }
+    ensures { λ r. ⌜ Sent (statusReply request verdict) state r (now (reply .entry)) (now (reply .exit)) ⌝ }
+{
+    let count = reply::put_status(reply, request, verdict);
+    Answered { state, count }
+}
+
+// A data reply.
+pub fn send(reply: &mut [u8], state: State, res: u8, bytes: &[u8]) -> Answered
+    requires { ⌜ (1030 ≤ length (now reply)) × (length (now bytes) ≤ 1024) ⌝ }
+    ensures { λ r. ⌜ Sent (dataReply res (now (bytes .entry))) state r (now (reply .entry)) (now (reply .exit)) ⌝ }
+{
+    let count = reply::put_data(reply, res, bytes);
+    Answered { state, count }
 }

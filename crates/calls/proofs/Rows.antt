@@ -17,11 +17,11 @@ use Rattle.acceptance.specs.declared.Rule.{Rule}
 use Rattle.acceptance.specs.declared.Acceptance.the-variants.{Breaks}
 use Rattle.acceptance.specs.Rules.{acceptanceOf, profileChecks, Accepted as AcceptedProfile}
 use Rattle.acceptance.proofs.Laws.{breaks-some}
-use Rattle.protocol.specs.declared.State.{State}
-use Rattle.protocol.specs.State.{freshState}
-use Rattle.protocol.specs.Fit.{Fit}
-use Rattle.protocol.specs.Fits.{fitsOf}
-use Rattle.protocol.proofs.FitParts.{fit, fits}
+use Rattle.state.specs.declared.State.{State}
+use Rattle.state.specs.State.{freshState}
+use Rattle.state.specs.Fit.{Fit}
+use Rattle.state.specs.Fits.{fitsOf}
+use Rattle.state.proofs.FitParts.{fit, fits}
 use Rattle.calls.specs.declared.Refusal.{Refusal}
 use Rattle.calls.specs.declared.Refusal.the-variants.{Accepted, Unacceptable, WrongImage, WrongState, ShortReceive, ShortReply}
 use Rattle.calls.specs.declared.Started.{Started}

@@ -10,11 +10,11 @@ use Rattle.profile.specs.declared.Profile.{Profile}
 use Rattle.profile.specs.Areas.{areasOf, totalOf}
 use Rattle.acceptance.specs.declared.Rule.{Rule}
 use Rattle.acceptance.specs.Rules.{profileChecks}
-use Rattle.protocol.specs.declared.Pulse.the-variants.{Zero}
-use Rattle.protocol.specs.declared.Stage.the-variants.{Setting}
-use Rattle.protocol.specs.declared.State.{State}
-use Rattle.protocol.specs.State.{freshState}
-use Rattle.protocol.specs.Fits.{fitsOf}
+use Rattle.state.specs.declared.Pulse.the-variants.{Zero}
+use Rattle.state.specs.declared.Stage.the-variants.{Setting}
+use Rattle.state.specs.declared.State.{State}
+use Rattle.state.specs.State.{freshState}
+use Rattle.state.specs.Fits.{fitsOf}
 use Rattle.calls.specs.declared.Refusal.{Refusal}
 use Rattle.calls.specs.declared.Started.{Started}
 use Rattle.calls.specs.declared.Refusal.the-variants.{Accepted, Unacceptable, WrongImage, WrongState, ShortReceive, ShortReply}

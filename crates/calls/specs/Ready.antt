@@ -6,8 +6,8 @@ use lib.ListN.{length}
 use Rattle.profile.specs.declared.Profile.{Profile}
 use Rattle.profile.specs.Areas.{areasOf, totalOf}
 use Rattle.acceptance.specs.Rules.{Accepted as AcceptedProfile}
-use Rattle.protocol.specs.declared.State.{State}
-use Rattle.protocol.specs.Fit.{Fit}
+use Rattle.state.specs.declared.State.{State}
+use Rattle.state.specs.Fit.{Fit}
 
 -- n bytes of image, k of reply buffer
 pub record Ready (p : Profile) (n : ℕ) (st : State) (rc : List ℕ) (k : ℕ) : Type 0 where

@@ -7,13 +7,13 @@ ghost use Rattle.verdict.specs.Check.{firstFault};
 ghost use Rattle.calls.specs.Calls.{startRows, refusalOf, zeroState, startedBy, resetBy};
 use baud::LineSetting;
 use profile::Profile;
-use protocol::Pulse;
-use protocol::Stage;
-use protocol::State;
 pub use refusals::is_accepted;
 pub use refusals::number;
 pub use refusals::refused;
 use refusals::unstarted;
+use state::Pulse;
+use state::Stage;
+use state::State;
 
 // Why a call is refused, and the case of one that is not.
 pub enum Refusal {
@@ -60,7 +60,7 @@ pub fn start(profile: Profile, image: &[u8]) -> Started
     if is_accepted(refusal) {
         return Started {
             refusal,
-            state: protocol::fresh(profile),
+            state: state::fresh(profile),
         };
     }
     Started {
@@ -77,7 +77,7 @@ pub fn reset(profile: Profile, image: &[u8], state: State) -> Started
     if is_accepted(refusal) {
         return Started {
             refusal,
-            state: protocol::fresh(profile),
+            state: state::fresh(profile),
         };
     }
     Started { refusal, state }

@@ -5,7 +5,7 @@ ghost use Rattle.calls.specs.Calls.{startRows, bufferRows, feedRows, ref
 use crate::Refusal;
 use acceptance::Acceptance;
 use profile::Profile;
-use protocol::State;
+use state::State;
 
 // The paper's number of a refusal; an accepted call has 0.
 pub fn number(refusal: Refusal) -> u8
@@ -72,7 +72,7 @@ pub fn refused(
 fn unbuffered(profile: Profile, state: State, receive: &[u8], room: usize) -> Refusal
     ensures { λ r. ⌜ r ≡ refusalOf (firstFault (bufferRows profile state (now (receive .entry)) room)) ⌝ }
 {
-    if !protocol::fits(profile, state, receive) {
+    if !state::fits(profile, state, receive) {
         return Refusal::WrongState;
     }
     if receive.len() < 1030 {

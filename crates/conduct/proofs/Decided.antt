@@ -24,21 +24,24 @@ use Rattle.packet.specs.Packet.{progressOf, isComplete, frame}
 use Rattle.packet.proofs.Laws.{impossible}
 use Rattle.reply.specs.Reply.{marked, resOf, statusReply}
 use Rattle.identity.specs.Identity.{totalErase}
-use Rattle.protocol.specs.declared.Com.{Com}
-use Rattle.protocol.specs.declared.Com.the-variants.{Inquiry, Erase, Write, Read, Authenticate, Baud, Signature, Area, Unknown}
-use Rattle.protocol.specs.declared.Range.{Range}
-use Rattle.protocol.specs.declared.Stage.{Stage}
-use Rattle.protocol.specs.declared.Stage.the-variants.{Setting, Authentication, Command, Writing, Reading}
-use Rattle.protocol.specs.declared.State.{State}
-use Rattle.protocol.specs.Commands.{comOf, codeAt, infoCount, infoOf, commandChecks}
-use Rattle.protocol.specs.State.{freshState}
-use Rattle.protocol.specs.Transfer.{writeChecks, nextChecks}
-use Rattle.protocol.proofs.CommandLaws.{com-unknown}
-use Rattle.protocol.proofs.Granted.{granted-form}
+use Rattle.fields.specs.declared.Com.{Com}
+use Rattle.fields.specs.declared.Com.the-variants.{Inquiry, Erase, Write, Read, Authenticate, Baud, Signature, Area, Unknown}
+use Rattle.state.specs.declared.Range.{Range}
+use Rattle.state.specs.declared.Stage.{Stage}
+use Rattle.state.specs.declared.Stage.the-variants.{Setting, Authentication, Command, Writing, Reading}
+use Rattle.state.specs.declared.State.{State}
+use Rattle.fields.specs.Fields.{comOf, codeAt, infoCount, infoOf}
+use Rattle.command.specs.Commands.{commandChecks}
+use Rattle.state.specs.State.{freshState}
+use Rattle.transfer.specs.Transfer.{writeChecks, nextChecks}
+use Rattle.fields.proofs.Laws.{com-unknown}
+use Rattle.command.proofs.Granted.{granted-form}
 use Rattle.flash.specs.Effects.{stored, blanked}
-use Rattle.answer.specs.Answer.{Answer, moved, after, ok, entered, readPacket, grantOf, decided, answerCommand, writeDecided, answerWrite, nextDecided, answerNext}
-use Rattle.device.specs.Step.{Machine, Step, settled, refusedEarly, heard, stepIn, stepOf}
-use Rattle.device.specs.Records.{isUnfit, progressIn, heardWith, completes, refuses}
+use Rattle.answer.specs.Answer.{Answer, moved}
+use Rattle.transferring.specs.Transfers.{after, readPacket, writeDecided, answerWrite, nextDecided, answerNext}
+use Rattle.granting.specs.Grants.{ok, entered, grantOf, decided, answerCommand}
+use Rattle.machine.specs.Step.{Machine, Step, settled, refusedEarly, heard, stepIn, stepOf}
+use Rattle.machine.specs.Records.{isUnfit, progressIn, heardWith, completes, refuses}
 
 -- a refusal: its status reply; the image stays, and only the stage changes
 pub record RefusedWith (request : ℕ) (reason : Reason) (before : List ℕ) (to : Stage) (st : State) (a : Answer) : Type 0 where

@@ -13,15 +13,17 @@ use Rattle.profile.specs.Bench.{bench}
 use Rattle.packet.specs.Packet.{permitted, lengthOf, measuredOf, progressOf, totalOf, endingChecks, lack, frame}
 use Rattle.ranges.specs.Ranges.{unitChecks, limited, windowChecks, changeChecks, purposeChecks, endChecks, rangeChecks}
 use Rattle.messages.specs.Messages.{signatureMessage}
-use Rattle.protocol.specs.declared.Pulse.the-variants.{Zero}
-use Rattle.protocol.specs.declared.Stage.{Stage}
-use Rattle.protocol.specs.declared.Stage.the-variants.{Setting, Authentication, Command}
-use Rattle.protocol.specs.State.{freshState}
-use Rattle.protocol.specs.Commands.{comOf, fourAt, formChecks, areaChecks, ownChecks, knownChecks, commandChecks}
-use Rattle.answer.specs.Answer.{moved, grantOf, decided, answerCommand}
-use Rattle.device.specs.Wake.{wakeOf}
-use Rattle.device.specs.Step.{Machine, heard, stepIn, stepOf}
-use Rattle.device.specs.Feed.{feedOf}
+use Rattle.state.specs.declared.Pulse.the-variants.{Zero}
+use Rattle.state.specs.declared.Stage.{Stage}
+use Rattle.state.specs.declared.Stage.the-variants.{Setting, Authentication, Command}
+use Rattle.state.specs.State.{freshState}
+use Rattle.fields.specs.Fields.{comOf, fourAt}
+use Rattle.command.specs.Commands.{formChecks, areaChecks, ownChecks, knownChecks, commandChecks}
+use Rattle.answer.specs.Answer.{moved}
+use Rattle.granting.specs.Grants.{grantOf, decided, answerCommand}
+use Rattle.waking.specs.Wake.{wakeOf}
+use Rattle.machine.specs.Step.{Machine, heard, stepIn, stepOf}
+use Rattle.machine.specs.Feed.{feedOf}
 
 -- a stage, what is sent, and the replies that come back
 pub record Line : Type 0 where

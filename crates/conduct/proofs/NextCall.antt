@@ -8,18 +8,18 @@ use Rattle.verdict.specs.Check.{firstFault}
 use Rattle.profile.specs.declared.Profile.{Profile}
 use Rattle.profile.specs.Areas.{areasOf, totalOf}
 use Rattle.acceptance.specs.Rules.{Accepted as AcceptedProfile}
-use Rattle.protocol.specs.declared.State.{State}
-use Rattle.protocol.specs.State.{freshState}
-use Rattle.protocol.specs.Fit.{Fit}
+use Rattle.state.specs.declared.State.{State}
+use Rattle.state.specs.State.{freshState}
+use Rattle.state.specs.Fit.{Fit}
 use Rattle.device.specs.declared.Fed.{Fed}
 use Rattle.calls.specs.declared.Refusal.the-variants.{Accepted}
-use Rattle.device.specs.Step.{Machine, machineOf}
-use Rattle.device.specs.Feed.{Delivery, feedOf}
-use Rattle.device.specs.Fits.{FitMachine}
+use Rattle.machine.specs.Step.{Machine, machineOf}
+use Rattle.machine.specs.Feed.{Delivery, feedOf}
+use Rattle.machine.specs.Fits.{FitMachine}
 use Rattle.calls.specs.Calls.{feedRows, refusalOf}
 use Rattle.device.specs.Post.{Ran}
 use Rattle.calls.specs.Ready.{Ready}
-use Rattle.device.proofs.Kept.{fresh-fits, feed-fits, feed-length, machine-fits, state-fits, held-short}
+use Rattle.machine.proofs.Kept.{fresh-fits, feed-fits, feed-length, machine-fits, state-fits, held-short}
 use Rattle.calls.proofs.Rows.{ready-rows}
 
 -- a machine that fits is a state that fits a receive buffer of at least 1,030 bytes that holds its bytes

@@ -28,23 +28,26 @@ use Rattle.flash.specs.Effects.{blanked, fetched, fetchedAt}
 use Rattle.identity.specs.Identity.{totalErase}
 use Rattle.messages.specs.Messages.{areaMessage, signatureMessage}
 use Rattle.reply.specs.Reply.{statusReply, dataReply, statusContents, dataContents}
-use Rattle.protocol.specs.declared.Com.{Com}
-use Rattle.protocol.specs.declared.Com.the-variants.{Inquiry, Erase, Write, Read, Authenticate, Baud, Signature, Area as AreaCommand, Unknown}
-use Rattle.protocol.specs.declared.Pulse.{Pulse}
-use Rattle.protocol.specs.declared.Pulse.the-variants.{Zero, One, Acknowledged}
-use Rattle.protocol.specs.declared.Range.{Range}
-use Rattle.protocol.specs.declared.Stage.{Stage}
-use Rattle.protocol.specs.declared.Stage.the-variants.{Setting, Authentication, Command, Writing, Reading}
-use Rattle.protocol.specs.declared.State.{State}
-use Rattle.protocol.specs.Commands.{comOf, codeAt, infoOf, sadOf, eadOf, numberOf, commandChecks}
-use Rattle.protocol.specs.State.{freshState}
-use Rattle.protocol.specs.Transfer.{writeChecks, nextChecks}
-use Rattle.answer.specs.Answer.{Answer, moved, ok, spanOf, readCount, readPacket, entered, grantOf, decided, answerCommand, writeDecided, answerWrite, nextDecided, answerNext}
-use Rattle.device.specs.Wake.{awake, goes, wakeOf}
-use Rattle.device.specs.Step.{Machine, earlyCode, heard, stepIn, stepOf}
-use Rattle.device.specs.Feed.{Delivery, feedOf}
-use Rattle.device.specs.Records.{isUnfit, progressIn, heardWith, completes, refuses}
-use Rattle.device.proofs.Delivered.{by-reply, feed-none, FromByte, reply-is}
+use Rattle.fields.specs.declared.Com.{Com}
+use Rattle.fields.specs.declared.Com.the-variants.{Inquiry, Erase, Write, Read, Authenticate, Baud, Signature, Area as AreaCommand, Unknown}
+use Rattle.state.specs.declared.Pulse.{Pulse}
+use Rattle.state.specs.declared.Pulse.the-variants.{Zero, One, Acknowledged}
+use Rattle.state.specs.declared.Range.{Range}
+use Rattle.state.specs.declared.Stage.{Stage}
+use Rattle.state.specs.declared.Stage.the-variants.{Setting, Authentication, Command, Writing, Reading}
+use Rattle.state.specs.declared.State.{State}
+use Rattle.fields.specs.Fields.{comOf, codeAt, infoOf, sadOf, eadOf, numberOf}
+use Rattle.command.specs.Commands.{commandChecks}
+use Rattle.state.specs.State.{freshState}
+use Rattle.transfer.specs.Transfer.{writeChecks, nextChecks}
+use Rattle.answer.specs.Answer.{Answer, moved}
+use Rattle.granting.specs.Grants.{ok, spanOf, entered, grantOf, decided, answerCommand}
+use Rattle.transferring.specs.Transfers.{readCount, readPacket, writeDecided, answerWrite, nextDecided, answerNext}
+use Rattle.waking.specs.Wake.{awake, goes, wakeOf}
+use Rattle.machine.specs.Step.{Machine, earlyCode, heard, stepIn, stepOf}
+use Rattle.machine.specs.Feed.{Delivery, feedOf}
+use Rattle.machine.specs.Records.{isUnfit, progressIn, heardWith, completes, refuses}
+use Rattle.machine.proofs.Delivered.{by-reply, feed-none, FromByte, reply-is}
 
 -- a reply packet: a data packet of a permitted length
 pub record IsPacket (reply : List ℕ) : Type 0 where

@@ -8,12 +8,12 @@ use lib.ListN.{length, take}
 use Rattle.verdict.specs.Check.{firstFault}
 use Rattle.verdict.proofs.OneAnswer.{one-answer}
 use Rattle.profile.specs.declared.Profile.{Profile}
-use Rattle.protocol.specs.declared.State.{State}
+use Rattle.state.specs.declared.State.{State}
 use Rattle.calls.specs.declared.Refusal.{Refusal}
 use Rattle.calls.specs.declared.Refusal.the-variants.{Accepted, Unacceptable, WrongImage, WrongState, ShortReceive, ShortReply}
 use Rattle.calls.specs.declared.Started.{Started}
 use Rattle.device.specs.declared.Fed.{Fed}
-use Rattle.device.specs.Feed.{Delivery}
+use Rattle.machine.specs.Feed.{Delivery}
 use Rattle.calls.specs.Calls.{startRows, refusalOf, isAccepted, startedBy, resetBy}
 use Rattle.device.specs.Post.{Ran, Unfed, FedBy}
 

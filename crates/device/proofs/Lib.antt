@@ -1,8 +1,3 @@
-pub mod Delivered
-pub mod Gather
-pub mod Going
-pub mod Kept
-pub mod Settles
+pub mod Added
 pub mod Steps
 pub mod Turns
-pub mod Woken

@@ -17,26 +17,27 @@ use Rattle.packet.specs.declared.Progress.{Progress}
 use Rattle.packet.specs.declared.Progress.the-variants.{Astray, Partial, Unfit, Complete, Excess}
 use Rattle.packet.specs.Packet.{progressOf}
 use Rattle.reply.specs.Reply.{front, statusReply}
-use Rattle.protocol.specs.declared.Pulse.{Pulse}
-use Rattle.protocol.specs.declared.Stage.{Stage}
-use Rattle.protocol.specs.declared.Stage.the-variants.{Setting, Authentication, Command, Writing, Reading}
-use Rattle.protocol.specs.declared.State.{State}
-use Rattle.protocol.specs.State.{windowOf}
-use Rattle.protocol.specs.Fits.{stageFits}
-use Rattle.protocol.specs.Fit.{Fit}
+use Rattle.state.specs.declared.Pulse.{Pulse}
+use Rattle.state.specs.declared.Stage.{Stage}
+use Rattle.state.specs.declared.Stage.the-variants.{Setting, Authentication, Command, Writing, Reading}
+use Rattle.state.specs.declared.State.{State}
+use Rattle.state.specs.State.{windowOf}
+use Rattle.state.specs.Fits.{stageFits}
+use Rattle.state.specs.Fit.{Fit}
 use Rattle.answer.specs.declared.Answered.{Answered}
 use Rattle.answer.specs.Answer.{Answer, moved}
 use Rattle.answer.specs.Post.{Left, Sent}
 use Rattle.device.specs.declared.Stepped.{Stepped}
-use Rattle.device.specs.Wake.{wakeOf}
-use Rattle.device.specs.Step.{Machine, machineOf, Step, settled, holding, earlyCode, endOf, refusedEarly, heard, stepIn, stepOf}
-use Rattle.device.specs.Listen.{held, kindOf, answerOf, Listening, RangeIn}
-use Rattle.device.specs.Fits.{FitMachine}
+use Rattle.waking.specs.Wake.{wakeOf}
+use Rattle.machine.specs.Step.{Machine, machineOf, Step, settled, holding, earlyCode, endOf, refusedEarly, heard, stepIn, stepOf}
+use Rattle.gathering.specs.Gather.{held}
+use Rattle.device.specs.Listen.{kindOf, answerOf, Listening, RangeIn}
+use Rattle.machine.specs.Fits.{FitMachine}
 use Rattle.device.specs.Post.{Stood}
 use Rattle.calls.specs.Ready.{Ready}
-use Rattle.device.proofs.Going.{going}
-use Rattle.device.proofs.Woken.{front-nothing}
-use Rattle.device.proofs.Kept.{machine-fits, state-fits, still-fits, held-short}
+use Rattle.machine.proofs.Going.{going}
+use Rattle.waking.proofs.Woken.{front-nothing}
+use Rattle.machine.proofs.Kept.{machine-fits, state-fits, still-fits, held-short}
 
 -- the bytes held, after the store of one more
 pub held-more : (rc : List ℕ) (n b : ℕ) → n < length rc → take (n + 1) (set rc n b) ≡ take n rc ++ b ∷ []

@@ -9,24 +9,24 @@ use lib.Seq.{take-all, paste, paste-zero, take-paste, length-paste}
 use Rattle.profile.specs.declared.Profile.{Profile}
 use Rattle.packet.proofs.Laws.{impossible}
 use Rattle.reply.specs.Reply.{front}
-use Rattle.protocol.specs.declared.State.{State}
-use Rattle.protocol.specs.Fits.{heldFits}
-use Rattle.protocol.specs.Fit.{Fit}
+use Rattle.state.specs.declared.State.{State}
+use Rattle.state.specs.Fits.{heldFits}
+use Rattle.state.specs.Fit.{Fit}
 use Rattle.device.specs.declared.Fed.{Fed}
 use Rattle.calls.specs.declared.Refusal.{Refusal}
 use Rattle.calls.specs.declared.Refusal.the-variants.{Accepted, Unacceptable, WrongImage, WrongState, ShortReceive, ShortReply}
-use Rattle.device.specs.declared.Gathered.{Gathered}
+use Rattle.gathering.specs.declared.Gathered.{Gathered}
 use Rattle.device.specs.declared.Stepped.{Stepped}
-use Rattle.device.specs.Step.{Machine, machineOf, Step, holding, stepOf}
-use Rattle.device.specs.Feed.{Delivery, feedOf}
-use Rattle.device.specs.Gather.{Holds, Taken}
-use Rattle.device.specs.Listen.{held}
+use Rattle.machine.specs.Step.{Machine, machineOf, Step, holding, stepOf}
+use Rattle.machine.specs.Feed.{Delivery, feedOf}
+use Rattle.gathering.specs.Gather.{Holds, Taken, held}
 use Rattle.calls.specs.Calls.{isAccepted}
 use Rattle.device.specs.Post.{Ran, FedBy, Stood}
 use Rattle.calls.specs.Ready.{Ready}
-use Rattle.device.proofs.Delivered.{later, atOnce, Reached, reached-start, reached-more, reached-quiet, reached-reply, reached-end}
-use Rattle.device.proofs.Gather.{taken-lack, taken-there, held-count, taken-count, taken-held, taken-room, fed-more}
-use Rattle.device.proofs.Woken.{front-nothing}
+use Rattle.machine.proofs.Delivered.{later, atOnce, Reached, reached-start, reached-more, reached-quiet, reached-reply, reached-end}
+use Rattle.gathering.proofs.Adding.{taken-lack, taken-there, held-count, taken-count, taken-held, taken-room}
+use Rattle.device.proofs.Added.{fed-more}
+use Rattle.waking.proofs.Woken.{front-nothing}
 use Rattle.calls.proofs.Rows.{is-accepted}
 
 -- what the bytes before i have done: no reply yet, the state fits, and what the whole input gives is what its rest gives, i bytes later

@@ -4,16 +4,12 @@ use Prim.Native.Nat.{ℕ, _+_, _≤_}
 use Rattle.profile.specs.declared.Profile.{Profile}
 use Rattle.packet.specs.declared.Kind.{Kind}
 use Rattle.packet.specs.declared.Kind.the-variants.{Command as CommandPacket, Data as DataPacket}
-use Rattle.protocol.specs.declared.Pulse.{Pulse}
-use Rattle.protocol.specs.declared.Range.{Range}
-use Rattle.protocol.specs.declared.Stage.{Stage}
-use Rattle.protocol.specs.declared.Stage.the-variants.{Setting, Authentication, Command, Writing, Reading}
-use Rattle.protocol.specs.declared.State.{State}
-use Rattle.answer.specs.Answer.{Answer, answerCommand, answerWrite, answerNext}
-
--- the state with this many bytes held
-abbrev pub held : ℕ → State → State
-held count st = record { stage = st .stage; id = st .id; line = st .line; held = count }
+use Rattle.state.specs.declared.Stage.{Stage}
+use Rattle.state.specs.declared.Stage.the-variants.{Setting, Authentication, Command, Writing, Reading}
+use Rattle.state.specs.declared.State.{State}
+use Rattle.answer.specs.Answer.{Answer}
+use Rattle.granting.specs.Grants.{answerCommand}
+use Rattle.transferring.specs.Transfers.{answerWrite, answerNext}
 
 -- no packet exists in setting: its clauses are never asked
 abbrev pub kindOf : Stage → Kind

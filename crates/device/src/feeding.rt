@@ -8,25 +8,25 @@ ghost use Rattle.verdict.specs.declared.Verdict.the-variants.{Refused};
 ghost use Rattle.reply.specs.Reply.{statusReply};
 ghost use Rattle.answer.specs.Answer.{moved};
 ghost use Rattle.answer.specs.Post.{Left, Sent};
-ghost use Rattle.device.specs.Step.{machineOf, earlyCode, endOf, stepOf};
+ghost use Rattle.machine.specs.Step.{machineOf, earlyCode, endOf, stepOf};
 ghost use Rattle.device.specs.Listen.{kindOf, answerOf, Listening, RangeIn};
-ghost use Rattle.device.specs.Feed.{feedOf};
+ghost use Rattle.machine.specs.Feed.{feedOf};
 ghost use Rattle.device.specs.Post.{Ran, Stood};
 ghost use Rattle.calls.specs.Ready.{Ready};
 use crate::Fed;
 use crate::Refusal;
 use crate::Stepped;
-use crate::gathering::gather;
-use crate::gathering::holding;
-use crate::waking::wake;
 use answer::Answered;
+use gathering::gather;
+use gathering::holding;
 use packet::Kind;
 use packet::Progress;
 use profile::Profile;
-use protocol::Stage;
-use protocol::State;
+use state::Stage;
+use state::State;
 use verdict::Reason;
 use verdict::Verdict;
+use waking::wake;
 
 // The kind of packet that a stage awaits; setting awaits none.
 fn awaited(stage: Stage) -> Kind
@@ -91,11 +91,25 @@ fn complete(
 {
     let stage = state.stage;
     match stage {
-        Stage::Setting(_) => answer::answer_command(profile, image, state, packet, reply),
-        Stage::Authentication => answer::answer_command(profile, image, state, packet, reply),
-        Stage::Command => answer::answer_command(profile, image, state, packet, reply),
-        Stage::Writing(range) => answer::answer_write(profile, image, state, range, packet, reply),
-        Stage::Reading(range) => answer::answer_next(profile, image, state, range, packet, reply),
+        Stage::Setting(_) => granting::answer_command(profile, image, state, packet, reply),
+        Stage::Authentication => granting::answer_command(profile, image, state, packet, reply),
+        Stage::Command => granting::answer_command(profile, image, state, packet, reply),
+        Stage::Writing(range) => transferring::answer_write(
+            profile,
+            image,
+            state,
+            range,
+            packet,
+            reply,
+        ),
+        Stage::Reading(range) => transferring::answer_next(
+            profile,
+            image,
+            state,
+            range,
+            packet,
+            reply,
+        ),
     }
 }
 

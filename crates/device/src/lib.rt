@@ -1,14 +1,12 @@
 // The device: start, reset, feed.
 mod feeding;
-mod gathering;
-mod waking;
 
 ghost use mathlib.Core.Path.{_≡_};
 ghost use lib.ListN.{length};
 ghost use Rattle.verdict.specs.Check.{firstFault};
 ghost use Rattle.calls.specs.Calls.{feedRows, refusalOf};
-ghost use Rattle.device.specs.Step.{machineOf};
-ghost use Rattle.device.specs.Feed.{feedOf};
+ghost use Rattle.machine.specs.Step.{machineOf};
+ghost use Rattle.machine.specs.Feed.{feedOf};
 ghost use Rattle.device.specs.Post.{FedBy};
 pub use calls::Refusal;
 pub use calls::Started;
@@ -20,7 +18,7 @@ pub use calls::start;
 pub use calls::zero;
 use feeding::run;
 use profile::Profile;
-use protocol::State;
+use state::State;
 
 // What feeding answers: the state, how many bytes were consumed, and how long the reply is.
 pub struct Fed {
@@ -34,12 +32,6 @@ pub struct Fed {
 pub struct Stepped {
     pub state: State,
     pub count: usize,
-}
-
-// What taking bytes that only add to a packet leads to, and how many they are.
-pub struct Gathered {
-    pub state: State,
-    pub taken: usize,
 }
 
 // Received bytes, up to the one that completes the first reply.

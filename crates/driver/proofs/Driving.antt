@@ -8,23 +8,23 @@ use lib.ListN.{length}
 use Rattle.verdict.specs.Check.{firstFault}
 use Rattle.profile.specs.declared.Profile.{Profile}
 use Rattle.recording.specs.Recording.{recordsOf}
-use Rattle.protocol.specs.declared.State.{State}
-use Rattle.protocol.specs.State.{freshState}
+use Rattle.state.specs.declared.State.{State}
+use Rattle.state.specs.State.{freshState}
 use Rattle.device.specs.declared.Fed.{Fed}
 use Rattle.calls.specs.declared.Refusal.{Refusal}
 use Rattle.calls.specs.declared.Refusal.the-variants.{Accepted, Unacceptable, WrongImage, WrongState, ShortReceive, ShortReply}
 use Rattle.calls.specs.declared.Started.{Started}
 use Rattle.calls.specs.Calls.{numberOf, isAccepted, startRows, bufferRows, feedRows, refusalOf, startedAt, startedBy}
-use Rattle.device.specs.Step.{Machine, machineOf}
-use Rattle.device.specs.Feed.{feedOf}
+use Rattle.machine.specs.Step.{Machine, machineOf}
+use Rattle.machine.specs.Feed.{feedOf}
 use Rattle.device.specs.Post.{FedBy}
 use Rattle.calls.specs.Ready.{Ready}
 use Rattle.calls.proofs.Rows.{stops, rows-ready}
-use Rattle.device.proofs.Woken.{front-nothing}
+use Rattle.waking.proofs.Woken.{front-nothing}
 use Rattle.driver.specs.declared.Driven.{Driven}
 use Rattle.history.specs.History.{freshOf, callsOf}
 use Rattle.driver.specs.Post.{Played, Ran, DrivenBy}
-use Rattle.driver.proofs.Playing.{fresh-machine}
+use Rattle.delivering.proofs.Called.{fresh-machine}
 use Rattle.history.proofs.Replayed.{replayed}
 
 -- the number 0 is that of an accepted call

@@ -1,43 +1,20 @@
 -- What driving a device over a script leaves.
-use mathlib.Core.List.{List, []}
+use mathlib.Core.List.{List}
 use mathlib.Core.Path.{_≡_}
-use Prim.Native.Nat.{ℕ, _≤_}
+use Prim.Native.Nat.{ℕ}
 use lib.ListN.{length, take}
 use Rattle.verdict.specs.Check.{firstFault}
 use Rattle.profile.specs.declared.Profile.{Profile}
 use Rattle.profile.specs.Areas.{areasOf}
-use Rattle.recording.specs.declared.Found.{Found}
-use Rattle.recording.specs.declared.Found.the-variants.{Host, Device, Reset, End, Unreadable}
-use Rattle.recording.specs.Recording.{continued, recordsOf, readable}
+use Rattle.recording.specs.Recording.{recordsOf, readable}
 use Rattle.replay.specs.Replay.{replay}
-use Rattle.protocol.specs.declared.State.{State}
 use Rattle.calls.specs.declared.Refusal.{Refusal}
 use Rattle.calls.specs.declared.Refusal.the-variants.{Accepted, Unacceptable, WrongImage, WrongState, ShortReceive, ShortReply}
-use Rattle.device.specs.Step.{Machine}
+use Rattle.machine.specs.Step.{Machine}
 use Rattle.calls.specs.Calls.{refusalOf, startRows, startedAt}
-use Rattle.calls.specs.Ready.{Ready}
 use Rattle.driver.specs.declared.Driven.{Driven}
-use Rattle.history.specs.History.{Call, freshOf, machineAfter, recordOf, bufferAfter, callsOf}
-
--- a state and lent buffers that are a machine, with what its replies left, and that the next call can be given
-pub record Stands (p : Profile) (m : Machine) (replies : List ℕ) (st : State) (im rc rp : List ℕ) : Type 0 where
-  pub state : st ≡ m .state
-  pub image : im ≡ m .image
-  pub held : take (st .held) rc ≡ m .held
-  pub reply : rp ≡ replies
-  pub ready : Ready p (length im) st rc (length rp)
-
--- a record that was found lies inside a script of n bytes
-abbrev pub Inside : ℕ → Found → Type 0
-Inside n (Host part) = (part .from ≤ part .to) × (part .to ≤ n)
-Inside n (Device part) = (part .from ≤ part .to) × (part .to ≤ n)
-Inside n (Reset part) = (part .from ≤ part .to) × (part .to ≤ n)
-Inside n End = Unit {0}
-Inside n Unreadable = Unit {0}
-
--- the calls of the record that was found: one at most
-abbrev pub callsAt : List ℕ → Found → List Call
-callsAt script found = callsOf (continued (λ to. []) script found)
+use Rattle.history.specs.History.{freshOf, machineAfter, recordOf, bufferAfter, callsOf}
+use Rattle.delivering.specs.Stands.{Stands}
 
 -- a script that was played from a machine on
 pub record Played (p : Profile) (m : Machine) (script : List ℕ) (r : Driven) (im rc rp₀ rp : List ℕ) : Type 0 where

@@ -4,6 +4,5 @@ pub mod Clip
 pub mod Lists
 pub mod Meets
 pub mod Pour
-pub mod Units
 pub mod Walk
 pub mod Writes

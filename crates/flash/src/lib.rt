@@ -5,20 +5,11 @@ ghost use lib.ListN.{length, replicate};
 ghost use Rattle.profile.specs.Areas.{areasOf};
 ghost use Rattle.profile.specs.declared.Place.the-variants.{In};
 ghost use Rattle.flash.specs.Effects.{erased, stored, blanked, fetched, fetchedAt};
-ghost use Rattle.flash.specs.Blank.{searched, allBlank};
 ghost use Rattle.flash.specs.Meets.{bytesBelow, Meets};
 use profile::Area;
 use profile::Place;
 use profile::Profile;
 use profile::Spot;
-
-// What looking for the first unit that is not blank finds.
-pub enum Search {
-    // all bytes are FFh
-    Clean,
-    // the number of the first unit that holds another byte
-    Dirty(usize),
-}
 
 // A part of the image, by places in it.
 struct Part {
@@ -155,58 +146,4 @@ pub fn fetch(image: &[u8], profile: Profile, address: u32, count: usize) -> &[u8
         Place::Nowhere => &image[0..0],
         Place::In(spot) => fetch_at(image, spot, address, count),
     }
-}
-
-// The end of the unit at `at`: the last one may be short.
-fn unit_end(at: usize, step: usize, length: usize) -> usize
-    requires { ⌜ at ≤ length ⌝ }
-    ensures { λ r. ⌜ r ≡ min (at + step) length ⌝ }
-{
-    if step < length - at {
-        at + step
-    } else {
-        length
-    }
-}
-
-// Whether all bytes are FFh. It looks at each one and never leaves early, so that the compiler can take many at once.
-fn is_blank(target: &[u8]) -> bool
-    ensures { λ r. ⌜ r ≡ allBlank (now (target .entry)) ⌝ }
-{
-    let mut blank = true;
-    let mut i = 0;
-    while i < target.len() {
-        if target[i] != 0xFF {
-            blank = false;
-        }
-        i += 1;
-    }
-    blank
-}
-
-// The first unit that holds a byte other than FFh. Where there is one, the search stops there; that there is none is found quickly beforehand.
-pub fn first_dirty(target: &[u8], unit: usize) -> Search
-    ensures { λ r. ⌜ r ≡ searched unit (now (target .entry)) ⌝ }
-{
-    if is_blank(target) {
-        return Search::Clean;
-    }
-    let step = if unit == 0 { 1 } else { unit };
-    let mut found = Search::Clean;
-    let mut number = 0;
-    let mut at = 0;
-    'units: while at < target.len() {
-        let end = unit_end(at, step, target.len());
-        let mut k = at;
-        while k < end {
-            if target[k] != 0xFF {
-                found = Search::Dirty(number);
-                break 'units;
-            }
-            k += 1;
-        }
-        number += 1;
-        at = end;
-    }
-    found
 }

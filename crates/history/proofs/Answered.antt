@@ -25,20 +25,23 @@ use Rattle.identity.specs.Identity.{eraseCode, totalErase, idChecks}
 use Rattle.identity.proofs.Codes.{erase-granted}
 use Rattle.reply.specs.Reply.{statusReply}
 use Rattle.reply.proofs.Replies.{told-apart}
-use Rattle.protocol.specs.declared.Com.{Com}
-use Rattle.protocol.specs.declared.Com.the-variants.{Inquiry, Erase, Write, Read, Authenticate, Baud, Signature, Area as AreaCommand, Unknown}
-use Rattle.protocol.specs.declared.Range.{Range}
-use Rattle.protocol.specs.declared.Stage.{Stage}
-use Rattle.protocol.specs.declared.Stage.the-variants.{Setting, Authentication, Command, Writing, Reading}
-use Rattle.protocol.specs.declared.State.{State}
-use Rattle.protocol.specs.State.{freshState}
-use Rattle.protocol.specs.Commands.{comOf, codeAt, infoCount, infoOf, infoLength, sadOf, ownChecks, commandChecks}
-use Rattle.protocol.specs.Transfer.{writeChecks, nextChecks}
-use Rattle.protocol.proofs.Granted.{ending-clear, own-clear, granted-form}
-use Rattle.protocol.proofs.WriteGranted.{write-ends, write-code, next-code}
-use Rattle.answer.specs.Answer.{Answer, after, readCount, readPacket, entered, grantOf, decided, answerCommand, writeDecided, answerWrite, nextDecided, answerNext}
+use Rattle.fields.specs.declared.Com.{Com}
+use Rattle.fields.specs.declared.Com.the-variants.{Inquiry, Erase, Write, Read, Authenticate, Baud, Signature, Area as AreaCommand, Unknown}
+use Rattle.state.specs.declared.Range.{Range}
+use Rattle.state.specs.declared.Stage.{Stage}
+use Rattle.state.specs.declared.Stage.the-variants.{Setting, Authentication, Command, Writing, Reading}
+use Rattle.state.specs.declared.State.{State}
+use Rattle.state.specs.State.{freshState}
+use Rattle.fields.specs.Fields.{comOf, codeAt, infoCount, infoOf, infoLength, sadOf}
+use Rattle.command.specs.Commands.{ownChecks, commandChecks}
+use Rattle.transfer.specs.Transfer.{writeChecks, nextChecks}
+use Rattle.command.proofs.Granted.{ending-clear, own-clear, granted-form}
+use Rattle.transfer.proofs.WriteGranted.{write-ends, write-code, next-code}
+use Rattle.answer.specs.Answer.{Answer}
+use Rattle.transferring.specs.Transfers.{after, readCount, readPacket, writeDecided, answerWrite, nextDecided, answerNext}
+use Rattle.granting.specs.Grants.{entered, grantOf, decided, answerCommand}
 use Rattle.replay.specs.Replay.{Tape, answeredOk, commandEffect, commandReplay, dataEffect, dataReplay, requestReplay}
-use Rattle.device.proofs.Settles.{either}
+use Rattle.machine.proofs.Settles.{either}
 
 -- while a write is under way, the replay's next data lands at the range's next address
 abbrev pub At : Stage → Option ℕ → Type 0

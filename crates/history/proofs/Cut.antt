@@ -7,9 +7,9 @@ use lib.ListN.{length, take, drop, take-append-drop}
 use Rattle.profile.specs.declared.Profile.{Profile}
 use Rattle.reply.specs.Reply.{front}
 use Rattle.replay.specs.Line.{Entry}
-use Rattle.device.specs.Step.{Machine, stepOf}
-use Rattle.device.specs.Feed.{Delivery, feedOf}
-use Rattle.device.proofs.Delivered.{later, atOnce, nothing, by-reply}
+use Rattle.machine.specs.Step.{Machine, stepOf}
+use Rattle.machine.specs.Feed.{Delivery, feedOf}
+use Rattle.machine.proofs.Delivered.{later, atOnce, nothing, by-reply}
 use Rattle.history.specs.History.{Call, deliver, hearing, machineAfter, entriesAt, heardRecord, recordOf, repliesOver, bufferAfter}
 
 -- bytes in two parts

@@ -10,9 +10,9 @@ use Rattle.profile.specs.Areas.{areasOf, totalOf}
 use Rattle.acceptance.specs.Rules.{Accepted}
 use Rattle.replay.specs.Line.{Entry}
 use Rattle.replay.specs.Replay.{replay}
-use Rattle.device.specs.Step.{Machine, stepOf}
-use Rattle.device.specs.Fits.{FitMachine}
-use Rattle.device.proofs.Kept.{fresh-fits, still-fits, kept-length, state-fits, held-short}
+use Rattle.machine.specs.Step.{Machine, stepOf}
+use Rattle.machine.specs.Fits.{FitMachine}
+use Rattle.machine.proofs.Kept.{fresh-fits, still-fits, kept-length, state-fits, held-short}
 use Rattle.calls.proofs.Rows.{start-accepts, ready-rows}
 use Rattle.history.specs.History.{Call, deliver, again, freshOf, hearing, machineAfter, recordOf}
 use Rattle.history.specs.Faithful.{NextAccepted, Faithful}

@@ -9,14 +9,14 @@ use lib.ListN.{length}
 use Rattle.profile.specs.declared.Profile.{Profile}
 use Rattle.packet.specs.Packet.{isComplete}
 use Rattle.packet.proofs.Laws.{impossible}
-use Rattle.protocol.specs.declared.Pulse.{Pulse}
-use Rattle.protocol.specs.declared.Stage.{Stage}
-use Rattle.protocol.specs.declared.Stage.the-variants.{Setting}
+use Rattle.state.specs.declared.Pulse.{Pulse}
+use Rattle.state.specs.declared.Stage.{Stage}
+use Rattle.state.specs.declared.Stage.the-variants.{Setting}
 use Rattle.replay.specs.Line.{exchange}
-use Rattle.device.specs.Step.{Machine, stepOf}
-use Rattle.device.specs.Feed.{Delivery, feedOf}
-use Rattle.device.specs.Records.{isUnfit, progressIn, heardWith, completes, refuses}
-use Rattle.device.proofs.Delivered.{by-reply}
+use Rattle.machine.specs.Step.{Machine, stepOf}
+use Rattle.machine.specs.Feed.{Delivery, feedOf}
+use Rattle.machine.specs.Records.{isUnfit, progressIn, heardWith, completes, refuses}
+use Rattle.machine.proofs.Delivered.{by-reply}
 use Rattle.conduct.proofs.Replies.{IsPacket, packet-least, Asked, packet-step}
 use Rattle.history.specs.History.{entriesAt, heardRecord}
 

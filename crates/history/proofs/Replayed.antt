@@ -13,19 +13,21 @@ use Rattle.packet.specs.declared.Progress.{Progress}
 use Rattle.packet.specs.declared.Progress.the-variants.{Astray, Partial, Unfit, Complete, Excess}
 use Rattle.packet.specs.Packet.{isComplete}
 use Rattle.identity.specs.Identity.{idOf, isNone}
-use Rattle.protocol.specs.declared.Pulse.{Pulse}
-use Rattle.protocol.specs.declared.Pulse.the-variants.{Zero, One, Acknowledged}
-use Rattle.protocol.specs.declared.Stage.{Stage}
-use Rattle.protocol.specs.declared.Stage.the-variants.{Setting, Authentication, Command, Writing, Reading}
-use Rattle.protocol.specs.declared.State.{State}
-use Rattle.protocol.specs.State.{freshState}
-use Rattle.answer.specs.Answer.{Answer, answerCommand, answerWrite, answerNext}
+use Rattle.state.specs.declared.Pulse.{Pulse}
+use Rattle.state.specs.declared.Pulse.the-variants.{Zero, One, Acknowledged}
+use Rattle.state.specs.declared.Stage.{Stage}
+use Rattle.state.specs.declared.Stage.the-variants.{Setting, Authentication, Command, Writing, Reading}
+use Rattle.state.specs.declared.State.{State}
+use Rattle.state.specs.State.{freshState}
+use Rattle.answer.specs.Answer.{Answer}
+use Rattle.granting.specs.Grants.{answerCommand}
+use Rattle.transferring.specs.Transfers.{answerWrite, answerNext}
 use Rattle.replay.specs.Line.{Entry, exchange}
 use Rattle.replay.specs.Replay.{Tape, entryReplay, replayFrom, replay}
-use Rattle.device.specs.Wake.{awake, wakeOf}
-use Rattle.device.specs.Step.{Machine, earlyCode, endOf, heard, stepIn, stepOf}
-use Rattle.device.specs.Records.{isUnfit, progressIn, heardWith, completes, refuses}
-use Rattle.device.proofs.Settles.{either}
+use Rattle.waking.specs.Wake.{awake, wakeOf}
+use Rattle.machine.specs.Step.{Machine, earlyCode, endOf, heard, stepIn, stepOf}
+use Rattle.machine.specs.Records.{isUnfit, progressIn, heardWith, completes, refuses}
+use Rattle.machine.proofs.Settles.{either}
 use Rattle.history.specs.History.{Call, deliver, again, freshOf, hearing, machineAfter, entriesAt, heardRecord, recordOf}
 use Rattle.history.proofs.Answered.{At, Answers, passed-over, command-law, write-law, next-law}
 

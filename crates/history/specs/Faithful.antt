@@ -8,7 +8,7 @@ use Rattle.profile.specs.declared.Profile.{Profile}
 use Rattle.profile.specs.Areas.{areasOf}
 use Rattle.replay.specs.Replay.{replay}
 use Rattle.calls.specs.declared.Refusal.the-variants.{Accepted}
-use Rattle.device.specs.Step.{Machine}
+use Rattle.machine.specs.Step.{Machine}
 use Rattle.calls.specs.Calls.{refusalOf, startRows, feedRows}
 use Rattle.history.specs.History.{Call, freshOf, machineAfter, recordOf}
 

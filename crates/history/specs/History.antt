@@ -5,10 +5,10 @@ use Prim.Native.Nat.{ℕ}
 use Rattle.profile.specs.declared.Profile.{Profile}
 use Rattle.recording.specs.Recording.{Record, host, device, reset}
 use Rattle.reply.specs.Reply.{front}
-use Rattle.protocol.specs.State.{freshState}
+use Rattle.state.specs.State.{freshState}
 use Rattle.replay.specs.Line.{Entry, exchange, restart}
-use Rattle.device.specs.Step.{Machine, stepOf}
-use Rattle.device.specs.Records.{heardWith, completes, refuses}
+use Rattle.machine.specs.Step.{Machine, stepOf}
+use Rattle.machine.specs.Records.{heardWith, completes, refuses}
 
 pub data Call : Type 0 where
   deliver : List ℕ → Call

@@ -10,18 +10,20 @@ use borrow.Author.Tests.{eqb-true, not-false, eq-eqb, ne-eqb}
 use Rattle.verdict.specs.Check.{Check, _gives_, firstFault, NoneApplies}
 use Rattle.verdict.proofs.FirstFault.{clear, clear-right}
 use Rattle.profile.specs.declared.Profile.{Profile}
-use Rattle.protocol.specs.declared.Stage.{Stage}
-use Rattle.protocol.specs.declared.State.{State}
-use Rattle.layout.specs.declared.StageIn.{StageIn}
-use Rattle.layout.specs.declared.StageIn.the-variants.{Is, NoStage}
-use Rattle.layout.specs.Profile.{profileIn}
-use Rattle.layout.specs.State.{stateWith, stateBy, stageIn}
+use Rattle.state.specs.declared.Stage.{Stage}
+use Rattle.state.specs.declared.State.{State}
+use Rattle.state_bytes.specs.declared.StageIn.{StageIn}
+use Rattle.state_bytes.specs.declared.StageIn.the-variants.{Is, NoStage}
+use Rattle.profile_bytes.specs.Profile.{profileIn}
+use Rattle.profile_bytes.specs.Rows.{profileRows}
+use Rattle.profile_bytes.proofs.RowLaws.{no-profile, is-profile}
+use Rattle.state_bytes.specs.State.{stateWith, stateBy, stageIn}
 use Rattle.calls.specs.declared.Refusal.{Refusal}
 use Rattle.calls.specs.declared.Refusal.the-variants.{Accepted, Unacceptable, WrongImage, WrongState, ShortReceive, ShortReply}
 use Rattle.calls.specs.declared.Started.{Started}
 use Rattle.calls.specs.Calls.{numberOf, isAccepted, startRows, bufferRows, feedRows, refusalOf, startedBy}
 use Rattle.calls.proofs.Rows.{is-accepted, Refusing, start-refusing, none-found, accepts, goes-on, stops}
-use Rattle.interface.specs.Calls.{profileRows, startingRows, stateRows, feedingRows, startRefusal, feedRefusal}
+use Rattle.interface.specs.Calls.{startingRows, stateRows, feedingRows, startRefusal, feedRefusal}
 
 -- the number 0 is that of an accepted call
 numbered : (row : Refusal) → numberOf row ≡ 0 → isAccepted row ≡ true
@@ -47,16 +49,6 @@ unaccepted WrongImage h = refl
 unaccepted WrongState h = refl
 unaccepted ShortReceive h = refl
 unaccepted ShortReply h = refl
-
--- a profile of n bytes of image, with any rows behind
-module _ (profile : List ℕ) (n : ℕ) (rows : List (Check Refusal)) where
-  no-profile : (length profile ≡ 156 → ⊥) → refusalOf (firstFault (profileRows profile n ++ rows)) ≡ Unacceptable
-  unfolding firstFault profileRows
-  no-profile h = simp (ne-eqb (length profile) 156 h)
-
-  is-profile : length profile ≡ 156 → refusalOf (firstFault (profileRows profile n ++ rows)) ≡ refusalOf (firstFault (startRows (profileIn profile) n ++ rows))
-  unfolding firstFault profileRows
-  is-profile h = simp (eq-eqb (length profile) 156 h)
 
 -- starting and resetting, with k bytes for the state
 module _ (profile : List ℕ) (n k : ℕ) where

@@ -13,7 +13,7 @@ use Rattle.packet.proofs.Contents.{payload-short, payload-none, payload-part}
 use Rattle.calls.specs.declared.Refusal.{Refusal}
 use Rattle.calls.specs.declared.Refusal.the-variants.{Accepted, Unacceptable, WrongImage, WrongState, ShortReceive, ShortReply}
 use Rattle.calls.specs.Calls.{isAccepted}
-use Rattle.device.specs.Feed.{Delivery}
+use Rattle.machine.specs.Feed.{Delivery}
 use Rattle.interface.specs.Post.{Started, WasReset, Ran, Unfed, FedBy, Handed}
 
 -- starting and resetting: the same number and the same bytes

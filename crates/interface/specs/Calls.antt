@@ -3,20 +3,16 @@ use mathlib.Core.Bool.{Bool, true, false, not}
 use mathlib.Core.List.{List, [], _∷_, _++_}
 use mathlib.Core.Option.{Option, none, some}
 use Prim.Native.Nat.{ℕ}
-use lib.ListN.{length}
 use lib.Dec.{eqb}
 use Rattle.verdict.specs.Check.{Check, _gives_, firstFault}
 use Rattle.profile.specs.declared.Profile.{Profile}
-use Rattle.protocol.specs.declared.State.{State}
-use Rattle.layout.specs.Profile.{profileLength, profileIn}
-use Rattle.layout.specs.State.{stateLength, stateIn}
+use Rattle.state.specs.declared.State.{State}
+use Rattle.profile_bytes.specs.Profile.{profileIn}
+use Rattle.profile_bytes.specs.Rows.{profileRows}
+use Rattle.state_bytes.specs.State.{stateLength, stateIn}
 use Rattle.calls.specs.declared.Refusal.{Refusal}
-use Rattle.calls.specs.declared.Refusal.the-variants.{Unacceptable, WrongState}
-use Rattle.calls.specs.Calls.{startRows, bufferRows, refusalOf}
-
--- bytes of another length are no profile
-unfoldable pub profileRows : List ℕ → ℕ → List (Check Refusal)
-profileRows profile n = (not (eqb (length profile) profileLength) gives Unacceptable) ∷ startRows (profileIn profile) n
+use Rattle.calls.specs.declared.Refusal.the-variants.{WrongState}
+use Rattle.calls.specs.Calls.{bufferRows, refusalOf}
 
 -- starting and resetting: of the state's bytes only their number k counts
 unfoldable pub startingRows : List ℕ → ℕ → ℕ → List (Check Refusal)

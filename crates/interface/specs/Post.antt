@@ -9,13 +9,13 @@ use lib.Dec.{eqb}
 use Rattle.profile.specs.declared.Profile.{Profile}
 use Rattle.packet.specs.Packet.{payloadOf}
 use Rattle.reply.specs.Reply.{front}
-use Rattle.protocol.specs.declared.State.{State}
-use Rattle.layout.specs.Profile.{profileIn}
-use Rattle.layout.specs.State.{stateIn, stateBytes, stateOver}
+use Rattle.state.specs.declared.State.{State}
+use Rattle.profile_bytes.specs.Profile.{profileIn}
+use Rattle.state_bytes.specs.State.{stateIn, stateBytes, stateOver}
 use Rattle.calls.specs.declared.Refusal.{Refusal}
 use Rattle.calls.specs.declared.Refusal.the-variants.{Accepted, Unacceptable, WrongImage, WrongState, ShortReceive, ShortReply}
-use Rattle.device.specs.Step.{Machine, machineOf}
-use Rattle.device.specs.Feed.{Delivery, feedOf}
+use Rattle.machine.specs.Step.{Machine, machineOf}
+use Rattle.machine.specs.Feed.{Delivery, feedOf}
 use Rattle.calls.specs.Calls.{numberOf, startedAt, zeroState}
 use Rattle.interface.specs.Calls.{startRefusal, feedRefusal}
 

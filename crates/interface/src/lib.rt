@@ -4,17 +4,17 @@ ghost use mathlib.Core.Path.{_≡_};
 ghost use lib.Dec.{eqb};
 ghost use lib.ListN.{length};
 ghost use Rattle.verdict.specs.Check.{firstFault};
-ghost use Rattle.layout.specs.Profile.{profileIn};
-ghost use Rattle.layout.specs.State.{stateOver};
+ghost use Rattle.profile_bytes.specs.Profile.{profileIn};
+ghost use Rattle.state_bytes.specs.State.{stateOver};
 ghost use Rattle.calls.specs.Calls.{feedRows, refusalOf, startedBy};
-ghost use Rattle.device.specs.Step.{machineOf};
-ghost use Rattle.device.specs.Feed.{feedOf};
+ghost use Rattle.machine.specs.Step.{machineOf};
+ghost use Rattle.machine.specs.Feed.{feedOf};
 ghost use Rattle.interface.specs.Calls.{startRefusal, feedRefusal};
 ghost use Rattle.interface.specs.Post.{Started, WasReset, FedBy, deliveryOf, Handed};
 use device::Refusal;
-use layout::StageIn;
 use profile::Profile;
-use protocol::State;
+use state::State;
+use state_bytes::StageIn;
 
 // Why a start with a profile's bytes and `room` bytes for the state is refused, and the state that it gives.
 fn begin(bytes: &[u8], image: &[u8], room: usize) -> device::Started
@@ -26,7 +26,7 @@ fn begin(bytes: &[u8], image: &[u8], room: usize) -> device::Started
             state: device::zero(),
         };
     }
-    let p = layout::profile_in(bytes);
+    let p = profile_bytes::profile_in(bytes);
     let begun = device::start(p, image);
     let refusal = begun.refusal;
     let number = device::number(refusal);
@@ -51,7 +51,7 @@ fn put(state: &mut [u8], given: State, number: u8, always: bool)
             return;
         }
     }
-    layout::put_state(state, given);
+    state_bytes::put_state(state, given);
 }
 
 // A fresh state for a profile and an image; a refused start leaves the zero state.
@@ -130,7 +130,7 @@ pub extern "C" fn indraveck_feed(
     if profile.len() != 156 {
         return device::number(Refusal::Unacceptable) as u32;
     }
-    let found = layout::stage_in(state);
+    let found = state_bytes::stage_in(state);
     match found {
         StageIn::NoStage => {
             let begun = begin(profile, image, 0);
@@ -138,8 +138,8 @@ pub extern "C" fn indraveck_feed(
             device::number(refusal) as u32
         }
         StageIn::Is(stage) => {
-            let p = layout::profile_in(profile);
-            let st = layout::state_in(state, stage);
+            let p = profile_bytes::profile_in(profile);
+            let st = state_bytes::state_in(state, stage);
             feed_state(p, image, state, st, receive, reply, input, consumed, sent)
         }
     }

@@ -5,16 +5,11 @@ use Prim.Native.Nat.{ℕ, zero, suc, _+_, _^_, _≤_, _<_}
 use native.Mathlib.Nat.{add-zero}
 use native.Mathlib.Omega.{arith}
 use lib.ListN.{length, getD}
-use borrow.Author.Tests.{le-leb}
 use Rattle.numbers.specs.Bytes.{number, bytesOf, field, numberAt}
 use Rattle.numbers.proofs.RoundTrip.{AllBytes, number-back, bytes-number}
-use Rattle.protocol.specs.Commands.{valueOf, fourAt}
-use Rattle.layout.specs.Fields.{twoAt, bytesFrom}
-use Rattle.layout.proofs.Spelled.{from-part}
-
-pub value-read : (w at : ℕ) (bs : List ℕ) → at + w ≤ length bs → valueOf (numberAt w bs at) ≡ number (field w at bs)
-unfolding numberAt
-value-read w at bs h = rw (le-leb (at + w) (length bs) h) refl
+use Rattle.fields.specs.Fields.{valueOf, fourAt, twoAt, bytesFrom}
+use Rattle.fields.proofs.Spelled.{from-part}
+use Rattle.fields.proofs.Laws.{value-read}
 
 -- a field that holds a number's bytes
 field-back : (w n at : ℕ) (bs : List ℕ) → at + w ≤ length bs → n < 256 ^ w → field w at bs ≡ bytesOf w n → valueOf (numberAt w bs at) ≡ n

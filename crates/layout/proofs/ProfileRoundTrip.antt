@@ -10,10 +10,9 @@ use Rattle.numbers.proofs.RoundTrip.{AllBytes}
 use Rattle.profile.specs.declared.Area.{Area}
 use Rattle.profile.specs.declared.Profile.{Profile}
 use Rattle.messages.specs.Messages.{areaMessage}
-use Rattle.protocol.specs.Commands.{fourAt}
-use Rattle.layout.specs.Fields.{bytesFrom}
-use Rattle.layout.specs.Profile.{areaAt, areasFrom, profileIn, tableBytes, profileBytes}
-use Rattle.layout.proofs.Spelled.{spelled}
+use Rattle.fields.specs.Fields.{fourAt, bytesFrom}
+use Rattle.profile_bytes.specs.Profile.{areaAt, areasFrom, profileIn, tableBytes, profileBytes}
+use Rattle.fields.proofs.Spelled.{spelled}
 use Rattle.layout.proofs.FieldLaws.{two-back, four-back, back-two, back-four, from-append}
 
 -- numbers within their widths

@@ -11,17 +11,16 @@ use borrow.Author.Tests.{eqb-true}
 use Rattle.numbers.specs.Bytes.{number, bytesOf}
 use Rattle.numbers.proofs.RoundTrip.{AllBytes}
 use Rattle.baud.specs.declared.LineSetting.{LineSetting}
-use Rattle.protocol.specs.declared.Pulse.the-variants.{Zero, One, Acknowledged}
-use Rattle.protocol.specs.declared.Range.{Range}
-use Rattle.protocol.specs.declared.Stage.{Stage}
-use Rattle.protocol.specs.declared.Stage.the-variants.{Setting, Authentication, Command, Writing, Reading}
-use Rattle.protocol.specs.declared.State.{State}
-use Rattle.protocol.specs.Commands.{fourAt}
-use Rattle.layout.specs.declared.StageIn.{StageIn}
-use Rattle.layout.specs.declared.StageIn.the-variants.{Is, NoStage}
-use Rattle.layout.specs.Fields.{bytesFrom}
-use Rattle.layout.specs.State.{stageNumber, pulsesOf, rangeOf, stateBytes, settingIn, stageOf, stageIn, stateWith, stateBy, stateIn}
-use Rattle.layout.proofs.Spelled.{spelled}
+use Rattle.state.specs.declared.Pulse.the-variants.{Zero, One, Acknowledged}
+use Rattle.state.specs.declared.Range.{Range}
+use Rattle.state.specs.declared.Stage.{Stage}
+use Rattle.state.specs.declared.Stage.the-variants.{Setting, Authentication, Command, Writing, Reading}
+use Rattle.state.specs.declared.State.{State}
+use Rattle.fields.specs.Fields.{fourAt, bytesFrom}
+use Rattle.state_bytes.specs.declared.StageIn.{StageIn}
+use Rattle.state_bytes.specs.declared.StageIn.the-variants.{Is, NoStage}
+use Rattle.state_bytes.specs.State.{stageNumber, pulsesOf, rangeOf, stateBytes, settingIn, stageOf, stageIn, stateWith, stateBy, stateIn}
+use Rattle.fields.proofs.Spelled.{spelled}
 use Rattle.layout.proofs.FieldLaws.{four-back, back-four}
 
 -- a state whose numbers are within their widths

@@ -13,9 +13,9 @@ use Rattle.identity.specs.Identity.{eraseCode}
 use Rattle.compare.specs.Same.{same}
 use Rattle.flash.specs.Effects.{Effect, along, changed, storing, erasing, stored, erased, blanked}
 use Rattle.flash.proofs.ByAddress.{stored-length, erased-length, blanked-length}
-use Rattle.protocol.specs.declared.Com.{Com}
-use Rattle.protocol.specs.declared.Com.the-variants.{Inquiry, Erase, Write, Read, Authenticate, Baud, Signature, Area as AreaCommand, Unknown}
-use Rattle.protocol.specs.Commands.{comOf, codeAt, infoOf, infoCount, infoLength, sadOf, eadOf}
+use Rattle.fields.specs.declared.Com.{Com}
+use Rattle.fields.specs.declared.Com.the-variants.{Inquiry, Erase, Write, Read, Authenticate, Baud, Signature, Area as AreaCommand, Unknown}
+use Rattle.fields.specs.Fields.{comOf, codeAt, infoOf, infoCount, infoLength, sadOf, eadOf}
 use Rattle.replay.specs.Blind.{bare}
 use Rattle.replay.specs.Line.{Entry, exchange, restart}
 use Rattle.replay.specs.Replay.{Tape, answeredOk, commandEffect, commandReplay, dataEffect, dataReplay, requestReplay, entryReplay, replayFrom, replay}

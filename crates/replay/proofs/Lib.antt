@@ -1,4 +1,3 @@
 pub mod Beyond
 pub mod Laws
 pub mod Tapes
-pub mod Playing

@@ -14,12 +14,12 @@ use Rattle.reply.specs.Reply.{statusContents, statusReply, front, hasRoom, Plac
 use Rattle.identity.specs.Identity.{eraseCode}
 use Rattle.compare.specs.Same.{same}
 use Rattle.flash.specs.Effects.{stored, blanked}
-use Rattle.protocol.specs.declared.Com.{Com}
-use Rattle.protocol.specs.declared.Com.the-variants.{Authenticate}
-use Rattle.protocol.specs.Commands.{comOf, codeAt, infoCount, infoOf, infoLength}
+use Rattle.fields.specs.declared.Com.{Com}
+use Rattle.fields.specs.declared.Com.the-variants.{Authenticate}
+use Rattle.fields.specs.Fields.{comOf, codeAt, infoCount, infoOf, infoLength}
 use Rattle.replay.specs.declared.Landing.{Landing}
 use Rattle.replay.specs.declared.Landing.the-variants.{Nowhere, At}
-use Rattle.replay.specs.Post.{landingOf, tapeOf, Taped}
+use Rattle.replay.specs.Taped.{landingOf, tapeOf, Taped}
 use Rattle.replay.specs.Replay.{Tape, answeredOk, commandEffect, commandReplay, dataEffect, dataReplay, requestReplay}
 
 -- a tape that is another's equal

@@ -1,4 +1,4 @@
 pub mod Line
 pub mod Replay
-pub mod Post
+pub mod Taped
 pub mod Blind

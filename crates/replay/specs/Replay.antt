@@ -14,9 +14,9 @@ use Rattle.packet.specs.Packet.{startOf, good}
 use Rattle.identity.specs.Identity.{eraseCode}
 use Rattle.flash.specs.Effects.{stored, erased, blanked}
 use Rattle.reply.specs.Reply.{statusReply}
-use Rattle.protocol.specs.declared.Com.{Com}
-use Rattle.protocol.specs.declared.Com.the-variants.{Inquiry, Erase, Write, Read, Authenticate, Baud, Signature, Area as AreaCommand, Unknown}
-use Rattle.protocol.specs.Commands.{comOf, codeAt, infoCount, infoOf, infoLength, sadOf, eadOf}
+use Rattle.fields.specs.declared.Com.{Com}
+use Rattle.fields.specs.declared.Com.the-variants.{Inquiry, Erase, Write, Read, Authenticate, Baud, Signature, Area as AreaCommand, Unknown}
+use Rattle.fields.specs.Fields.{comOf, codeAt, infoCount, infoOf, infoLength, sadOf, eadOf}
 use Rattle.replay.specs.Line.{Entry, exchange, restart}
 
 -- the image so far, and where the next write data lands: nowhere before the first write command

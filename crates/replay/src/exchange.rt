@@ -3,12 +3,12 @@ ghost use mathlib.Core.List.{[]};
 ghost use mathlib.Core.Path.{_≡_};
 ghost use lib.ListN.{length};
 ghost use Rattle.profile.specs.Areas.{areasOf};
-ghost use Rattle.protocol.specs.declared.Com.the-variants.{Authenticate};
+ghost use Rattle.fields.specs.declared.Com.the-variants.{Authenticate};
 ghost use Rattle.replay.specs.Replay.{answeredOk, commandEffect, commandReplay, dataEffect, dataReplay, requestReplay};
-ghost use Rattle.replay.specs.Post.{landingOf, tapeOf, Taped, CanMove};
+ghost use Rattle.replay.specs.Taped.{landingOf, tapeOf, Taped, CanMove};
 use crate::Landing;
+use fields::Com;
 use profile::Profile;
-use protocol::Com;
 use verdict::Verdict;
 
 // Whether the reply is the OK status of the request's own COM or RES.
@@ -16,7 +16,7 @@ fn answered_ok(request: &[u8], reply: &[u8]) -> bool
     ensures { λ r. ⌜ r ≡ answeredOk (now (request .entry)) (now (reply .entry)) ⌝ }
 {
     let mut status = [0u8; 7];
-    reply::put_status(&mut status, protocol::byte_at(request, 3), Verdict::Granted);
+    reply::put_status(&mut status, fields::byte_at(request, 3), Verdict::Granted);
     compare::equal(reply, &status)
 }
 
@@ -24,7 +24,7 @@ fn answered_ok(request: &[u8], reply: &[u8]) -> bool
 fn entered(image: &mut [u8], landing: Landing, request: &[u8]) -> Landing
     ensures { λ r. ⌜ Taped (commandEffect [] (now (request .entry)) Authenticate (tapeOf (now (image .entry)) landing)) r (now (image .exit)) ⌝ }
 {
-    if identity::is_erase_code(protocol::info(request)) {
+    if identity::is_erase_code(fields::info(request)) {
         flash::erase_all(image);
     }
     landing
@@ -43,12 +43,12 @@ fn command_effect(
     match cmd {
         Com::Inquiry => landing,
         Com::Erase => {
-            let sad = protocol::four_at(request, 4);
-            let ead = protocol::four_at(request, 8);
+            let sad = fields::four_at(request, 4);
+            let ead = fields::four_at(request, 8);
             flash::erase(image, profile, sad, ead);
             landing
         }
-        Com::Write => Landing::At(protocol::four_at(request, 4) as usize),
+        Com::Write => Landing::At(fields::four_at(request, 4) as usize),
         Com::Read => landing,
         Com::Authenticate => entered(image, landing, request),
         Com::Baud => landing,
@@ -68,8 +68,8 @@ fn replay_command(
 ) -> Landing
     ensures { λ r. ⌜ Taped (commandReplay (areasOf profile) (now (request .entry)) (now (reply .entry)) (tapeOf (now (image .entry)) landing)) r (now (image .exit)) ⌝ }
 {
-    let cmd = protocol::com_of(protocol::byte_at(request, 3));
-    if protocol::info_count(request) != protocol::info_length(cmd) {
+    let cmd = fields::com_of(fields::byte_at(request, 3));
+    if fields::info_count(request) != fields::info_length(cmd) {
         return landing;
     }
     if !answered_ok(request, reply) {
@@ -87,9 +87,9 @@ fn data_effect(image: &mut [u8], profile: Profile, landing: Landing, request: &[
         Landing::Nowhere => landing,
         Landing::At(address) => {
             if address <= 0xFFFF_FFFF {
-                flash::store(image, profile, address as u32, protocol::info(request));
+                flash::store(image, profile, address as u32, fields::info(request));
             }
-            let behind = address + protocol::info_count(request);
+            let behind = address + fields::info_count(request);
             Landing::At(behind)
         }
     }
@@ -106,7 +106,7 @@ fn replay_data(
     requires { ⌜ CanMove landing (length (now request)) ⌝ }
     ensures { λ r. ⌜ Taped (dataReplay (areasOf profile) (now (request .entry)) (now (reply .entry)) (tapeOf (now (image .entry)) landing)) r (now (image .exit)) ⌝ }
 {
-    if protocol::byte_at(request, 3) != 0x13 {
+    if fields::byte_at(request, 3) != 0x13 {
         return landing;
     }
     if !answered_ok(request, reply) {
@@ -116,7 +116,7 @@ fn replay_data(
 }
 
 // A request and its reply.
-pub(crate) fn replay_exchange(
+pub fn replay_exchange(
     image: &mut [u8],
     profile: Profile,
     landing: Landing,
@@ -129,7 +129,7 @@ pub(crate) fn replay_exchange(
     if !packet::is_good(request) {
         return landing;
     }
-    if protocol::byte_at(request, 0) == 0x01 {
+    if fields::byte_at(request, 0) == 0x01 {
         return replay_command(image, profile, landing, request, reply);
     }
     replay_data(image, profile, landing, request, reply)

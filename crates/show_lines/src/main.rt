@@ -5,7 +5,7 @@ use bench::bench_profile;
 use device::Refusal;
 use numbers::Number;
 use profile::Profile;
-use protocol::State;
+use state::State;
 
 // Bytes in hex, each behind a space.
 fn print_bytes(bytes: &[u8]) {

@@ -4,10 +4,10 @@ ghost use mathlib.Core.Path.{_≡_};
 ghost use Prim.Native.Nat.{_+_, _≤_, _<_};
 ghost use lib.ListN.{length};
 ghost use Rattle.recording.specs.Recording.{stopped};
-ghost use Rattle.driver.specs.Post.{Inside};
+ghost use Rattle.delivering.specs.Stands.{Inside};
 use bench::bench_profile;
-use protocol::State;
 use recording::Found;
+use state::State;
 
 // Bytes behind others in a buffer; none if there is no room.
 fn append(buffer: &mut [u8], at: usize, bytes: &[u8]) -> usize {
@@ -165,7 +165,7 @@ fn replays(script: &[u8], image: &[u8]) -> bool {
     if 8192 < length {
         return false;
     }
-    let read = replay::play(&mut replayed, bench_profile(), &line[..length]);
+    let read = playback::play(&mut replayed, bench_profile(), &line[..length]);
     if read != length {
         return false;
     }

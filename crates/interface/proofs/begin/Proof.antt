@@ -1,7 +1,7 @@
 -- `interface::begin` meets its contract. The profile's length is asked first, then the device, then the room for the state. Assumes nothing.
 use lib.ListN.{length}
 use Rattle.interface.proofs.Refusals.{begin-no-profile, begin-refused, begin-no-room, begin-accepted}
-use Rattle.layout.specs.Profile.{profileIn}
+use Rattle.profile_bytes.specs.Profile.{profileIn}
 use Rattle.calls.proofs.Rows.{begun}
 use Rattle.calls.specs.declared.Refusal.the-variants.{Unacceptable, WrongState}
 use Rattle.calls.specs.declared.Refusal.{Refusal}

@@ -1,6 +1,6 @@
 -- `interface::feed_state` meets its contract. What the device's feed left, with the state in its bytes. Assumes nothing.
-use Rattle.device.specs.Feed.{feedOf}
-use Rattle.device.specs.Step.{machineOf}
+use Rattle.machine.specs.Feed.{feedOf}
+use Rattle.machine.specs.Step.{machineOf}
 use Rattle.calls.specs.Calls.{feedRows, refusalOf}
 use Rattle.verdict.specs.Check.{firstFault}
 use lib.ListN.{length}

@@ -1,8 +1,8 @@
 -- `replay::exchange::command_effect` meets its contract. Each arm is the definition's case of that command. Assumes nothing.
 use Rattle.replay.proofs.Tapes.{retaped, still, known}
-use Rattle.replay.specs.Post.{tapeOf}
+use Rattle.replay.specs.Taped.{tapeOf}
 use Rattle.replay.specs.Replay.{commandEffect}
-use Rattle.protocol.specs.Commands.{sadOf}
+use Rattle.fields.specs.Fields.{sadOf}
 use Rattle.flash.specs.Effects.{erased}
 use Rattle.profile.specs.Areas.{areasOf}
 use Prim.Native.Nat.{ℕ}

@@ -1,10 +1,10 @@
 -- `replay::exchange::data_effect` meets its contract. Data lands where the definition puts it; from 2^32 on it changes nothing, since no area goes so far. Assumes nothing.
 use Rattle.replay.proofs.Tapes.{retaped, still, nowhere, landed}
 use Rattle.replay.proofs.Beyond.{owned-below, stored-beyond}
-use Rattle.replay.specs.Post.{tapeOf, CanMove}
+use Rattle.replay.specs.Taped.{tapeOf, CanMove}
 use Rattle.replay.specs.declared.Landing.{Landing}
 use Rattle.flash.specs.Effects.{stored}
-use Rattle.protocol.specs.Commands.{infoOf}
+use Rattle.fields.specs.Fields.{infoOf}
 use Rattle.profile.specs.Areas.{areasOf}
 use lib.ListN.{length}
 use native.Mathlib.Omega.{arith}

@@ -1,6 +1,6 @@
 -- `replay::exchange::entered` meets its contract. The test on the code decides, as in the definition. Assumes nothing.
 use Rattle.replay.proofs.Tapes.{retaped, still, entered-erases, entered-only}
-use Rattle.replay.specs.Post.{tapeOf}
+use Rattle.replay.specs.Taped.{tapeOf}
 use mathlib.Core.Path.{refl}
 use mathlib.Core.List.{[]}
 use borrow.Author.Needs.{needs}

@@ -1,7 +1,7 @@
 -- `replay::exchange::replay_command` meets its contract. The tests on length and reply stand in the order of the definition. Assumes nothing.
 use Rattle.replay.proofs.Tapes.{retaped, still, known, command-length, command-refused, command-done}
-use Rattle.replay.specs.Post.{tapeOf}
-use Rattle.protocol.specs.Commands.{comOf, codeAt, infoLength}
+use Rattle.replay.specs.Taped.{tapeOf}
+use Rattle.fields.specs.Fields.{comOf, codeAt, infoLength}
 use Rattle.profile.specs.Areas.{areasOf}
 use borrow.Author.Tests.{not-true, not-false}
 use mathlib.Core.Path.{_≡_, sym, ap, _∙_}

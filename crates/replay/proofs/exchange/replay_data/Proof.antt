@@ -1,6 +1,6 @@
 -- `replay::exchange::replay_data` meets its contract. The tests on RES and reply stand in the order of the definition. Assumes nothing.
 use Rattle.replay.proofs.Tapes.{retaped, still, data-other, data-refused, data-done}
-use Rattle.replay.specs.Post.{tapeOf}
+use Rattle.replay.specs.Taped.{tapeOf}
 use Rattle.profile.specs.Areas.{areasOf}
 use borrow.Author.Tests.{not-true, not-false}
 use mathlib.Core.Path.{sym, _∙_}

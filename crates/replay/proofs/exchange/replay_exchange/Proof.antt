@@ -1,6 +1,6 @@
 -- `replay::exchange::replay_exchange` meets its contract. The tests on packet and start byte stand in the order of the definition. Assumes nothing.
 use Rattle.replay.proofs.Tapes.{retaped, still, request-bad, request-command, request-data}
-use Rattle.replay.specs.Post.{tapeOf}
+use Rattle.replay.specs.Taped.{tapeOf}
 use Rattle.profile.specs.Areas.{areasOf}
 use borrow.Author.Tests.{not-true, not-false}
 use mathlib.Core.Path.{sym, _∙_}

@@ -1,0 +1,88 @@
+// Bytes that only add to an incomplete packet, taken in one copy.
+ghost use mathlib.Core.Path.{_≡_};
+ghost use Prim.Native.Nat.{_+_, _≤_, min};
+ghost use lib.ListN.{length};
+ghost use lib.Seq.{paste};
+ghost use Rattle.gathering.specs.Gather.{held, lackOf, Holds, Taken};
+use numbers::Number;
+use state::State;
+
+// What taking bytes that only add to a packet leads to, and how many they are.
+pub struct Gathered {
+    pub state: State,
+    pub taken: usize,
+}
+
+// The state with this many bytes held.
+pub fn holding(state: State, count: usize) -> State
+    ensures { λ r. ⌜ r ≡ held count state ⌝ }
+{
+    let stage = state.stage;
+    let id = state.id;
+    let line = state.line;
+    State {
+        stage,
+        id,
+        line,
+        held: count,
+    }
+}
+
+// The smaller of the two.
+fn lower(a: usize, b: usize) -> usize
+    ensures { λ r. ⌜ r ≡ min a b ⌝ }
+{
+    if a < b { a } else { b }
+}
+
+// The bytes of `from`, which are as many.
+fn copy(part: &mut [u8], from: &[u8])
+    requires { ⌜ length (now part) ≡ length (now from) ⌝ }
+    ensures { λ _. ⌜ now (part .exit) ≡ now (from .entry) ⌝ }
+{
+    let mut i = 0;
+    while i < from.len() {
+        part[i] = from[i];
+        i += 1;
+    }
+}
+
+// The first `count` bytes of `from`, to `receive` from `at` on.
+fn place(receive: &mut [u8], at: usize, from: &[u8], count: usize)
+    requires { ⌜ (at + count ≤ length (now receive)) × (count ≤ length (now from)) ⌝ }
+    ensures { λ _. ⌜ now (receive .exit) ≡ paste (now (receive .entry)) at (now (from .entry)) count ⌝ }
+{
+    let end = at + count;
+    copy(&mut receive[at..end], &from[..count]);
+}
+
+// How many bytes can come before the packet's last; none where its length has not come.
+fn lacking(packet: &[u8]) -> usize
+    ensures { λ r. ⌜ r ≡ lackOf (now (packet .entry)) ⌝ }
+{
+    let length = numbers::read_two(packet, 1);
+    match length {
+        Number::CutShort => 0,
+        Number::Is(n) => {
+            let last = n as usize + 4;
+            if packet.len() < last {
+                return last - packet.len();
+            }
+            0
+        }
+    }
+}
+
+// As many bytes of input as can come before the packet's last, behind those that are held. In setting none are held.
+pub fn gather(state: State, receive: &mut [u8], input: &[u8]) -> Gathered
+    requires { ⌜ Holds state (now receive) ⌝ }
+    ensures { λ r. ⌜ Taken state (now (input .entry)) r (now (receive .entry)) (now (receive .exit)) ⌝ }
+{
+    let at = state.held;
+    let taken = lower(lacking(&receive[..at]), input.len());
+    place(receive, at, input, taken);
+    Gathered {
+        state: holding(state, at + taken),
+        taken,
+    }
+}

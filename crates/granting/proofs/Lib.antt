@@ -1,0 +1,2 @@
+pub mod Granting
+pub mod Spans

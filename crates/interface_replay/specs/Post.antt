@@ -1,0 +1,32 @@
+-- What a replay from outside leaves, by name.
+use mathlib.Core.Bool.{cond}
+use mathlib.Core.List.{List}
+use mathlib.Core.Path.{_≡_}
+use Prim.Native.Nat.{ℕ}
+use lib.ListN.{length}
+use Rattle.verdict.specs.Check.{firstFault}
+use Rattle.profile.specs.Areas.{areasOf}
+use Rattle.recording.specs.Recording.{recordsOf, readable}
+use Rattle.replay.specs.Line.{exchangesOf}
+use Rattle.replay.specs.Replay.{replay}
+use Rattle.calls.specs.declared.Refusal.{Refusal}
+use Rattle.calls.specs.Calls.{numberOf, isAccepted, refusalOf}
+use Rattle.profile_bytes.specs.Profile.{profileIn}
+use Rattle.profile_bytes.specs.Rows.{profileRows}
+
+-- why it is refused, for an image of n bytes
+abbrev pub replayRefusal : List ℕ → ℕ → Refusal
+replayRefusal profile n = refusalOf (firstFault (profileRows profile n))
+
+-- the image, and how far the recording could be read; a refused replay leaves the image and reads nothing
+abbrev pub imageBy : Refusal → List ℕ → List ℕ → List ℕ → List ℕ
+imageBy row profile recording before =
+    cond (isAccepted row) (replay (areasOf (profileIn profile)) before (exchangesOf (recordsOf recording))) before
+
+abbrev pub readBy : Refusal → List ℕ → ℕ
+readBy row recording = cond (isAccepted row) (readable recording) 0
+
+pub record Replayed (profile recording before after : List ℕ) (r read : ℕ) : Type 0 where
+  pub number : r ≡ numberOf (replayRefusal profile (length before))
+  pub image : after ≡ imageBy (replayRefusal profile (length before)) profile recording before
+  pub count : read ≡ readBy (replayRefusal profile (length before)) recording

@@ -1,0 +1,4 @@
+pub mod Delivered
+pub mod Going
+pub mod Settles
+pub mod Kept

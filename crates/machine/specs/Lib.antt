@@ -1,0 +1,4 @@
+pub mod Step
+pub mod Feed
+pub mod Records
+pub mod Fits

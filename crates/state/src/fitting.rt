@@ -1,0 +1,86 @@
+// Whether a state fits the profile and the receive buffer.
+ghost use mathlib.Core.Path.{_≡_};
+ghost use Rattle.profile.specs.Areas.{areasOf};
+ghost use Rattle.packet.specs.Packet.{progressOf};
+ghost use Rattle.state.specs.Fits.{isPartial, rangeFits, heldFits, stageFits, fitsOf};
+use crate::Range;
+use crate::Stage;
+use crate::State;
+use packet::Kind;
+use packet::Progress;
+use profile::Profile;
+use profile::Window;
+use ranges::Purpose;
+use verdict::Verdict;
+
+// Whether the bytes are an incomplete packet of the kind.
+fn waits(held: &[u8], kind: Kind) -> bool
+    ensures { λ r. ⌜ r ≡ isPartial (progressOf kind (now (held .entry))) ⌝ }
+{
+    let progress = packet::gathered(held, kind);
+    match progress {
+        Progress::Astray => false,
+        Progress::Partial => true,
+        Progress::Unfit => false,
+        Progress::Complete => false,
+        Progress::Excess => false,
+    }
+}
+
+fn held_fits(stage: Stage, held: &[u8]) -> bool
+    ensures { λ r. ⌜ r ≡ heldFits stage (now (held .entry)) ⌝ }
+{
+    match stage {
+        Stage::Setting(_) => held.len() == 0,
+        Stage::Authentication => waits(held, Kind::Command),
+        Stage::Command => waits(held, Kind::Command),
+        Stage::Writing(_) => waits(held, Kind::Data),
+        Stage::Reading(_) => waits(held, Kind::Data),
+    }
+}
+
+fn range_fits(profile: Profile, window: Window, purpose: Purpose, range: Range) -> bool
+    ensures { λ r. ⌜ r ≡ rangeFits (areasOf profile) window purpose range ⌝ }
+{
+    if range.left < 1 {
+        return false;
+    }
+    let behind = range.next as u64 + range.left as u64;
+    if 0x1_0000_0000 < behind {
+        return false;
+    }
+    let last = (behind - 1) as u32;
+    let found = ranges::check_range(profile, window, purpose, range.next, last);
+    match found {
+        Verdict::Granted => true,
+        Verdict::Refused(_) => false,
+    }
+}
+
+fn stage_fits(profile: Profile, window: Window, stage: Stage) -> bool
+    ensures { λ r. ⌜ r ≡ stageFits (areasOf profile) window stage ⌝ }
+{
+    match stage {
+        Stage::Setting(_) => true,
+        Stage::Authentication => true,
+        Stage::Command => true,
+        Stage::Writing(range) => range_fits(profile, window, Purpose::Write, range),
+        Stage::Reading(range) => range_fits(profile, window, Purpose::Read, range),
+    }
+}
+
+// Whether a state fits.
+pub fn fits(profile: Profile, state: State, receive: &[u8]) -> bool
+    ensures { λ r. ⌜ r ≡ fitsOf profile state (now (receive .entry)) ⌝ }
+{
+    let count = state.held;
+    let stage = state.stage;
+    if receive.len() < count {
+        return false;
+    }
+    if !held_fits(stage, &receive[..count]) {
+        return false;
+    }
+    let window = profile.window;
+    stage_fits(profile, window, stage)
+}

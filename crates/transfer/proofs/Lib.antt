@@ -1,0 +1,2 @@
+pub mod TransferLaws
+pub mod WriteGranted
