@@ -2,17 +2,29 @@
 CARGO := ./cargo
 export INDRAVECK_HOST := $(shell uname -m)
 
-.PHONY: help library test test-c long-test more-edits bench fmt fmt-check
+.PHONY: help library tool crates test test-c long-test more-edits bench fmt fmt-check
 
 help:
+	@echo "make tool       proves the library and builds ./indraveck over it"
 	@echo "make library    proves and builds the library that C and Rust link"
-	@echo "make test       compares it with the independent model: 20,000 random histories and the systematic ones"
+	@echo "make test       the tool on real ports; the library beside the independent model on 20,000 random histories and the systematic ones"
 	@echo "make long-test  the same with a million"
 	@echo "make more-edits the wrong versions that the gate leaves out for time"
-	@echo "make bench      measures both in one run and prints the ratios"
+	@echo "make bench      measures both in one run and prints the ratios; the blank check by itself too"
 
+# rt check proves several crates at a time; rt staticlib then finds them proved.
 library:
+	rt check interface interface_replay
 	rt staticlib interface
+	rt staticlib interface_replay
+
+tool: library
+	$(CARGO) build --offline --release -p indraveck-tool
+
+# Those from Debian that the tool and the tests are built of: they need no proved library.
+crates:
+	$(CARGO) build --offline --release -p indraveck-evidence --no-default-features
+	$(CARGO) build --offline --release -p clap:4.0.32 -p nix -p toml -p serde -p memmap2
 
 ifeq ($(shell uname -m),x86_64)
 CC_X86 := gcc
@@ -27,7 +39,7 @@ test: library test-c
 
 test-c: library
 	./setup
-	$(CC_X86) -std=c99 -Wall -Wextra -Werror -O1 -Iinclude tests/c/calls.c target/staticlib/libinterface.a -o target/calls
+	$(CC_X86) -std=c99 -Wall -Wextra -Werror -O1 -Iinclude tests/c/calls.c target/staticlib/libinterface.a target/staticlib/libinterface_replay.a -o target/calls
 	$(RUN_X86) target/calls
 
 long-test: library
@@ -37,6 +49,7 @@ more-edits:
 	./more-edits
 
 bench: library
+	rt staticlib gauge
 	$(CARGO) bench --offline -p indraveck-benchmarks
 
 RUST_FILES = $(shell find rust -name '*.rs' -not -path '*/target/*')

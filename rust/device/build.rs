@@ -12,15 +12,17 @@ fn main() {
             PathBuf::from(env::var_os("CARGO_MANIFEST_DIR").unwrap()).join("../../target/staticlib")
         }
     };
-    let library = folder.join("libinterface.a");
-    println!("cargo:rerun-if-changed={}", library.display());
-    if !library.is_file() {
-        eprintln!(
-            "{} is not there: run `make library` first, or set INDRAVECK_LIBRARY to its folder",
-            library.display()
-        );
-        exit(1);
-    }
     println!("cargo:rustc-link-search=native={}", folder.display());
-    println!("cargo:rustc-link-lib=static=interface");
+    for name in ["interface", "interface_replay"] {
+        let library = folder.join(format!("lib{}.a", name));
+        println!("cargo:rerun-if-changed={}", library.display());
+        if !library.is_file() {
+            eprintln!(
+                "{} is not there: run `make library` first, or set INDRAVECK_LIBRARY to its folder",
+                library.display()
+            );
+            exit(1);
+        }
+        println!("cargo:rustc-link-lib=static={}", name);
+    }
 }

@@ -20,9 +20,13 @@ mod device;
 mod profile;
 pub mod raw;
 mod refusal;
+mod replay;
+mod rules;
 mod state;
 
 pub use device::{Device, StartError};
 pub use profile::{Area, Kind, Profile, AREAS, PROFILE_BYTES};
 pub use refusal::Refusal;
+pub use replay::replay;
+pub use rules::Rule;
 pub use state::{Stage, State, STATE_BYTES};

@@ -57,6 +57,15 @@ impl Profile {
         self.areas.iter().map(Area::size).sum()
     }
 
+    /// Where the ID code stands in the image: at the start of the config area. The image's length where there is none.
+    pub fn id_place(&self) -> usize {
+        let before = self
+            .areas
+            .iter()
+            .take_while(|area| area.kind != Kind::Config);
+        before.map(Area::size).sum::<u64>() as usize
+    }
+
     /// The profile as the library takes it; `None` if there are more areas than fit.
     pub fn to_bytes(&self) -> Option<[u8; PROFILE_BYTES]> {
         if self.areas.len() > AREAS {

@@ -1,4 +1,4 @@
-//! The four functions of `include/indraveck.h` on slices. Each takes any slices: what is wrong is refused with its number, and
+//! The five functions of `include/indraveck.h` on slices. Each takes any slices: what is wrong is refused with its number, and
 //! nothing but the slices is read or written. That is proved of the library, so the calls are safe.
 
 extern "C" {
@@ -40,6 +40,15 @@ extern "C" {
         count: usize,
         start: *mut u64,
         length: *mut u64,
+    ) -> u32;
+    fn indraveck_replay(
+        profile: *const u8,
+        profile_len: usize,
+        image: *mut u8,
+        image_len: usize,
+        recording: *const u8,
+        recording_len: usize,
+        read: *mut u64,
     ) -> u32;
 }
 
@@ -131,4 +140,22 @@ pub fn payload(receive: &[u8], count: usize) -> Option<std::ops::Range<usize>> {
     }
     let start = start as usize;
     Some(start..start + length as usize)
+}
+
+/// The number of the refusal, 0 for accepted, and how many of the recording's bytes could be read.
+pub fn replay(profile: &[u8], image: &mut [u8], recording: &[u8]) -> (u32, usize) {
+    let mut read = 0;
+    let refusal = unsafe {
+        indraveck_replay(
+            profile.as_ptr(),
+            profile.len(),
+            image.as_mut_ptr(),
+            image.len(),
+            recording.as_ptr(),
+            recording.len(),
+            &mut read,
+        )
+    };
+    // at most the recording's length
+    (refusal, read as usize)
 }

@@ -1,0 +1,173 @@
+//! Image files: the device's flash on disk.
+
+use crate::failure::{Explain, Failure, Outcome};
+use crate::number;
+use crate::profile_file::Named;
+use memmap2::MmapMut;
+use nix::errno::Errno;
+use nix::fcntl::{flock, posix_fallocate, FlockArg};
+use std::fs::{self, File, OpenOptions};
+use std::io::{self, Write};
+use std::os::unix::io::AsRawFd;
+use std::path::{Path, PathBuf};
+
+const BLANK: u8 = 0xFF;
+const FULL: &str =
+    "free some space on that disk and try again; no image that was there has been changed";
+
+/// An image file, mapped: what is stored in it is in the file, for every program that reads it.
+pub struct ImageFile {
+    map: MmapMut,
+    path: PathBuf,
+    // keeps the lock
+    _file: File,
+}
+
+impl ImageFile {
+    /// Opens the image for one stand-in alone. Its length has to be the profile's, and its space on the disk is made sure of
+    /// now, so that no write into it can find the disk full later.
+    pub fn open(path: &Path, named: &Named) -> Outcome<ImageFile> {
+        let file = OpenOptions::new()
+            .read(true)
+            .write(true)
+            .open(path)
+            .explain(
+                || format!("the image {} cannot be opened", path.display()),
+                "give an image file that may be read and written; a blank one is made by `indraveck image new`, or by `--create` here",
+            )?;
+        match flock(file.as_raw_fd(), FlockArg::LockExclusiveNonblock) {
+            Ok(()) => {}
+            Err(Errno::EWOULDBLOCK) => {
+                return Err(Failure::new(
+                    format!("the image {} is in use by another stand-in", path.display()),
+                    "end that one first, or give each its own image",
+                ))
+            }
+            Err(error) => {
+                return Err(error).explain(
+                    || format!("the image {} cannot be locked", path.display()),
+                    "keep images on a disk of this machine",
+                )
+            }
+        }
+        let length = file
+            .metadata()
+            .explain(
+                || format!("the length of {} cannot be read", path.display()),
+                "look at the disk it is on",
+            )?
+            .len();
+        check_length(path, length, named)?;
+        allocate(&file, length).explain(
+            || format!("there is no room for the image {}", path.display()),
+            FULL,
+        )?;
+        // The lock keeps other stand-ins out; a program that cuts the file short while it is mapped ends this one (see signals).
+        let map = unsafe { MmapMut::map_mut(&file) }.explain(
+            || format!("the image {} cannot be mapped", path.display()),
+            "keep images on a disk of this machine, as plain files",
+        )?;
+        Ok(ImageFile {
+            map,
+            path: path.to_path_buf(),
+            _file: file,
+        })
+    }
+
+    /// Waits until what was stored is on the disk.
+    pub fn sync(&self) -> Outcome<()> {
+        self.map.flush().explain(
+            || format!("the image {} could not be written", self.path.display()),
+            "look at its disk; the answer to the last request was not sent, so do not count it as done",
+        )
+    }
+}
+
+impl AsRef<[u8]> for ImageFile {
+    fn as_ref(&self) -> &[u8] {
+        &self.map
+    }
+}
+
+impl AsMut<[u8]> for ImageFile {
+    fn as_mut(&mut self) -> &mut [u8] {
+        &mut self.map
+    }
+}
+
+/// A file with holes gets its blocks.
+fn allocate(file: &File, length: u64) -> io::Result<()> {
+    match posix_fallocate(file.as_raw_fd(), 0, length as i64) {
+        // some disks cannot be asked
+        Ok(()) | Err(Errno::EOPNOTSUPP) | Err(Errno::EINVAL) => Ok(()),
+        Err(error) => Err(error.into()),
+    }
+}
+
+/// The bytes of an image, to look at: another program may be serving it.
+pub fn read(path: &Path, named: &Named) -> Outcome<Vec<u8>> {
+    let length = fs::metadata(path)
+        .explain(
+            || format!("the image {} cannot be read", path.display()),
+            "give the path of an image file; a blank one is made by `indraveck image new`",
+        )?
+        .len();
+    check_length(path, length, named)?;
+    let bytes = fs::read(path).explain(
+        || format!("the image {} cannot be read", path.display()),
+        "give an image file that may be read",
+    )?;
+    check_length(path, bytes.len() as u64, named)?;
+    Ok(bytes)
+}
+
+fn check_length(path: &Path, length: u64, named: &Named) -> Outcome<()> {
+    let total = named.profile.total();
+    if length == total {
+        return Ok(());
+    }
+    Err(Failure::new(
+        format!(
+            "the image {} has {}, and the areas of the profile {} have {} together",
+            path.display(),
+            number::bytes(length),
+            named.name,
+            number::bytes(total)
+        ),
+        "give the image that belongs to this profile; it was left as it is",
+    ))
+}
+
+/// Makes a blank image, with an ID code in its config area if one is given. A file that is there is never written over.
+pub fn create(path: &Path, named: &Named, id: Option<[u8; 16]>) -> Outcome<()> {
+    let mut bytes = vec![BLANK; named.profile.total() as usize];
+    if let Some(id) = id {
+        let at = named.profile.id_place();
+        bytes[at..at + id.len()].copy_from_slice(&id);
+    }
+    let mut file = OpenOptions::new()
+        .write(true)
+        .create_new(true)
+        .open(path)
+        .map_err(|error| {
+            let advice = if error.kind() == io::ErrorKind::AlreadyExists {
+                "give another name, or move that file away; it was left as it is"
+            } else {
+                "give a path in a folder that is there and may be written"
+            };
+            Failure::new(
+                format!("the image {} cannot be made: {}", path.display(), error),
+                advice,
+            )
+        })?;
+    file.write_all(&bytes)
+        .and_then(|()| file.sync_all())
+        .map_err(|error| {
+            // half an image would only be in the way
+            let _ = fs::remove_file(path);
+            Failure::new(
+                format!("the image {} cannot be written: {}", path.display(), error),
+                FULL,
+            )
+        })
+}

@@ -1,0 +1,257 @@
+//! The tool started for real, on a real pseudo-terminal, and a client's end of the line.
+#![allow(dead_code)] // each test file uses its own part
+
+use nix::poll::{poll, PollFd, PollFlags};
+use nix::sys::signal::{kill, Signal};
+use nix::unistd::Pid;
+use std::env;
+use std::fs::{self, File, OpenOptions};
+use std::io::{BufRead, BufReader, Read, Write};
+use std::os::unix::fs::OpenOptionsExt;
+use std::os::unix::io::AsRawFd;
+use std::path::{Path, PathBuf};
+use std::process::{Child, ChildStdout, Command, Output, Stdio};
+use std::sync::atomic::{AtomicUsize, Ordering};
+use std::time::{Duration, Instant};
+
+/// How long an answer may take before a test calls it missing.
+const PATIENCE: Duration = Duration::from_secs(20);
+
+/// The root of the repository.
+pub fn root() -> PathBuf {
+    Path::new(env!("CARGO_MANIFEST_DIR")).join("../..")
+}
+
+/// The tool; where its machine is emulated, by the emulator.
+pub fn tool() -> Command {
+    let built = env!("CARGO_BIN_EXE_indraveck");
+    match env::var_os("INDRAVECK_EMULATOR") {
+        Some(emulator) => {
+            let mut command = Command::new(emulator);
+            command.arg(built);
+            command
+        }
+        None => Command::new(built),
+    }
+}
+
+/// A folder of its own for a test, with the bench profile; removed at the end.
+pub struct Folder(pub PathBuf);
+
+static FOLDERS: AtomicUsize = AtomicUsize::new(0);
+
+impl Folder {
+    pub fn new() -> Folder {
+        let number = FOLDERS.fetch_add(1, Ordering::SeqCst);
+        let name = format!("indraveck-{}-{}", std::process::id(), number);
+        let path = env::temp_dir().join(name);
+        fs::create_dir(&path).expect("a folder for the test");
+        fs::copy(root().join("profiles/bench.toml"), path.join("bench.toml"))
+            .expect("the bench profile");
+        Folder(path)
+    }
+
+    pub fn path(&self, name: &str) -> PathBuf {
+        self.0.join(name)
+    }
+
+    pub fn read(&self, name: &str) -> Vec<u8> {
+        fs::read(self.path(name)).expect("a file of the test")
+    }
+
+    pub fn write(&self, name: &str, bytes: &[u8]) {
+        fs::write(self.path(name), bytes).expect("a file of the test");
+    }
+
+    /// Runs the tool in this folder to its end.
+    pub fn run(&self, arguments: &[&str]) -> Output {
+        tool()
+            .args(arguments)
+            .current_dir(&self.0)
+            .stdin(Stdio::null())
+            .output()
+            .expect("the tool")
+    }
+
+    /// Runs the tool with these bytes on its standard input.
+    pub fn run_with(&self, arguments: &[&str], input: &[u8]) -> Output {
+        let mut child = tool()
+            .args(arguments)
+            .current_dir(&self.0)
+            .stdin(Stdio::piped())
+            .stdout(Stdio::piped())
+            .stderr(Stdio::piped())
+            .spawn()
+            .expect("the tool");
+        let mut stdin = child.stdin.take().expect("its standard input");
+        let input = input.to_vec();
+        let writer = std::thread::spawn(move || stdin.write_all(&input));
+        let output = child.wait_with_output().expect("the tool");
+        let _ = writer.join(); // the tool may have ended before it read all
+        output
+    }
+}
+
+impl Drop for Folder {
+    fn drop(&mut self) {
+        let _ = fs::remove_dir_all(&self.0);
+    }
+}
+
+/// A stand-in that is running.
+pub struct Serving {
+    child: Child,
+    says: BufReader<ChildStdout>,
+    pub port: PathBuf,
+}
+
+impl Serving {
+    /// With the bench profile, and the image made if it is not there.
+    pub fn start(folder: &Folder, image: &str, more: &[&str]) -> Serving {
+        let log = File::create(folder.path(&format!("{}.log", image))).expect("a log");
+        let mut child = tool()
+            .args(["serve", "--profile", "bench.toml", "--create", "--log"])
+            .args(["--image", image])
+            .args(more)
+            .current_dir(&folder.0)
+            .stdin(Stdio::null())
+            .stdout(Stdio::piped())
+            .stderr(log)
+            .spawn()
+            .expect("the tool");
+        let mut says = BufReader::new(child.stdout.take().expect("its standard output"));
+        let mut name = String::new();
+        says.read_line(&mut name).expect("the port's name");
+        let port = PathBuf::from(name.trim_end());
+        assert!(
+            port.starts_with("/dev/pts"),
+            "{:?} instead of the port",
+            name
+        );
+        Serving { child, says, port }
+    }
+
+    /// Resets the device, and waits until it says so.
+    pub fn reset(&mut self) {
+        self.signal(Signal::SIGUSR1);
+        let mut word = String::new();
+        self.says.read_line(&mut word).expect("a word");
+        assert_eq!(word, "reset\n");
+    }
+
+    pub fn signal(&self, signal: Signal) {
+        kill(Pid::from_raw(self.child.id() as i32), signal).expect("a signal to the tool");
+    }
+
+    /// Ends it by a signal; its exit status, or none if the signal killed it.
+    pub fn end(mut self, signal: Signal) -> Option<i32> {
+        self.signal(signal);
+        let until = Instant::now() + PATIENCE;
+        loop {
+            if let Some(status) = self.child.try_wait().expect("the tool's end") {
+                return status.code();
+            }
+            assert!(Instant::now() < until, "{} did not end it", signal);
+            std::thread::sleep(Duration::from_millis(5));
+        }
+    }
+}
+
+impl Drop for Serving {
+    fn drop(&mut self) {
+        let _ = self.child.kill();
+        let _ = self.child.wait();
+    }
+}
+
+/// A client's end of the line.
+pub struct Client(File);
+
+impl Client {
+    pub fn open(port: &Path) -> Client {
+        let file = OpenOptions::new()
+            .read(true)
+            .write(true)
+            .custom_flags(nix::libc::O_NOCTTY)
+            .open(port)
+            .expect("the port");
+        Client(file)
+    }
+
+    pub fn send(&mut self, bytes: &[u8]) {
+        self.0.write_all(bytes).expect("bytes to the port");
+    }
+
+    /// So many bytes; fewer if no more come in time.
+    pub fn receive(&mut self, count: usize) -> Vec<u8> {
+        let mut received = vec![0; count];
+        let mut have = 0;
+        while have < count && self.comes(PATIENCE) {
+            have += self.0.read(&mut received[have..]).expect("the port");
+        }
+        received.truncate(have);
+        received
+    }
+
+    /// Whether anything comes within this time.
+    pub fn comes(&mut self, time: Duration) -> bool {
+        let mut ends = [PollFd::new(self.0.as_raw_fd(), PollFlags::POLLIN)];
+        poll(&mut ends, time.as_millis() as i32).expect("the port") > 0
+    }
+
+    /// Sends a request and takes its whole reply.
+    pub fn ask(&mut self, request: &[u8]) -> Vec<u8> {
+        self.send(request);
+        let mut reply = self.receive(3);
+        if let [0x81, high, low] = reply[..] {
+            let rest = 256 * usize::from(high) + usize::from(low) + 2;
+            reply.extend(self.receive(rest));
+        }
+        reply
+    }
+
+    pub fn wake_up(&mut self) {
+        self.send(&[0, 0]);
+        assert_eq!(self.receive(1), [0x00]);
+        self.send(&[0x55]);
+        assert_eq!(self.receive(1), [0xC3]);
+    }
+}
+
+/// A packet with its length and checksum.
+pub fn packet(start: u8, contents: &[u8]) -> Vec<u8> {
+    let mut packet = vec![start, (contents.len() >> 8) as u8, contents.len() as u8];
+    packet.extend_from_slice(contents);
+    let sum = packet[1..]
+        .iter()
+        .fold(0u8, |sum, byte| sum.wrapping_sub(*byte));
+    packet.extend([sum, 0x03]);
+    packet
+}
+
+pub fn command(com: u8, information: &[u8]) -> Vec<u8> {
+    packet(0x01, &[&[com], information].concat())
+}
+
+pub fn range(com: u8, first: u32, last: u32) -> Vec<u8> {
+    command(com, &[first.to_be_bytes(), last.to_be_bytes()].concat())
+}
+
+pub fn data(bytes: &[u8]) -> Vec<u8> {
+    packet(0x81, &[&[0x13], bytes].concat())
+}
+
+pub const ERASED: [u8; 7] = [0x81, 0x00, 0x02, 0x12, 0x00, 0xEC, 0x03];
+pub const WRITTEN: [u8; 7] = [0x81, 0x00, 0x02, 0x13, 0x00, 0xEB, 0x03];
+
+/// Bytes that repeat late.
+pub fn pattern(count: usize, seed: u32) -> Vec<u8> {
+    let mut state = seed | 1;
+    let mut next = || {
+        state ^= state << 13;
+        state ^= state >> 17;
+        state ^= state << 5;
+        (state >> 8) as u8
+    };
+    (0..count).map(|_| next()).collect()
+}

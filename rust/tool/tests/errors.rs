@@ -1,0 +1,173 @@
+//! docs/ERRORS.md, run: each command there gets the error that stands under it, and no file changes.
+
+mod common;
+
+use common::{root, Folder};
+use std::collections::BTreeMap;
+use std::fs;
+
+fn document() -> String {
+    fs::read_to_string(root().join("docs/ERRORS.md")).expect("the document")
+}
+
+/// A table's cell between two backquotes.
+fn quoted(cell: &str) -> &str {
+    cell.trim().trim_matches('`')
+}
+
+/// The profile files of the first table, made from the bench profile.
+fn make_profiles(folder: &Folder, document: &str) -> usize {
+    let bench = fs::read_to_string(folder.path("bench.toml")).expect("the bench profile");
+    let rows = document.lines().filter_map(|line| line.strip_prefix("| "));
+    let mut made = 0;
+    for row in rows {
+        let cells: Vec<&str> = row.trim_end_matches(" |").split(" | ").collect();
+        if let [name, text, instead] = cells[..] {
+            if !name.ends_with(".toml") {
+                continue;
+            }
+            let (text, instead) = (quoted(text), quoted(instead));
+            let profile = match text.strip_suffix("...") {
+                Some(start) => {
+                    let at = bench.find(start).expect("the text is in the bench profile");
+                    format!("{}{}\n", &bench[..at], instead)
+                }
+                None => {
+                    assert_eq!(bench.matches(text).count(), 1, "{} in bench.toml", text);
+                    bench.replace(text, instead)
+                }
+            };
+            folder.write(name, profile.as_bytes());
+            made += 1;
+        }
+    }
+    made
+}
+
+fn make_others(folder: &Folder) {
+    let mut nine = String::from_utf8(folder.read("bench.toml")).expect("the bench profile");
+    for i in 0..7 {
+        nine += &format!(
+            "\n[[area]]\nkind = \"data\"\nsad = 0x0200_0{}00\nead = 0x0200_0{}FF\neau = 0\nwau = 0\n",
+            i, i
+        );
+    }
+    folder.write("nine.toml", nine.as_bytes());
+    folder.write("latin.toml", b"name = \"\xE9\"\n");
+    folder.write("flash.bin", &common::pattern(65_792, 77));
+    folder.write("short.bin", &[0xFF; 65_791]);
+    folder.write("empty.bin", b"");
+    folder.write("slot", b"");
+    fs::create_dir(folder.path("folder")).expect("a folder");
+}
+
+struct Case {
+    command: Vec<String>,
+    error: String,
+    status: i32,
+}
+
+/// The blocks that start with a `$`.
+fn cases(document: &str) -> Vec<Case> {
+    let mut found: Vec<Case> = Vec::new();
+    let mut open: Option<Case> = None;
+    for line in document.lines() {
+        let line = match line.strip_prefix("    ") {
+            Some(line) => line,
+            None => continue,
+        };
+        if let Some(command) = line.strip_prefix("$ indraveck") {
+            assert!(open.is_none(), "no exit status before {:?}", line);
+            open = Some(Case {
+                command: command.split_whitespace().map(String::from).collect(),
+                error: String::new(),
+                status: 0,
+            });
+        } else if let Some(status) = line.strip_prefix("exit status ") {
+            let mut case = open.take().expect("a command before its exit status");
+            case.status = status.parse().expect("an exit status");
+            found.push(case);
+        } else {
+            let case = open.as_mut().expect("a command before its error");
+            case.error += line;
+            case.error += "\n";
+        }
+    }
+    found
+}
+
+/// Whether a text is as expected, where `...` stands for any words.
+fn matches(expected: &str, text: &str) -> bool {
+    let mut parts = expected.trim_end().split("...");
+    let first = parts.next().unwrap_or_default();
+    let mut rest = match text.trim_end().strip_prefix(first) {
+        Some(rest) => rest,
+        None => return false,
+    };
+    let mut open = false;
+    for part in parts {
+        open = part.is_empty();
+        rest = match rest.find(part) {
+            Some(at) => &rest[at + part.len()..],
+            None => return false,
+        };
+    }
+    open || rest.is_empty()
+}
+
+fn contents(folder: &Folder) -> BTreeMap<String, Option<Vec<u8>>> {
+    let entries = fs::read_dir(&folder.0).expect("the test's folder");
+    entries
+        .map(|entry| {
+            let entry = entry.expect("an entry of the folder");
+            let name = entry.file_name().to_string_lossy().into_owned();
+            (name, fs::read(entry.path()).ok())
+        })
+        .collect()
+}
+
+#[test]
+fn every_error_of_the_document_is_given_and_nothing_is_lost() {
+    let document = document();
+    let folder = Folder::new();
+    assert!(make_profiles(&folder, &document) >= 20);
+    make_others(&folder);
+    let before = contents(&folder);
+    let cases = cases(&document);
+    assert!(cases.len() >= 45, "only {} cases", cases.len());
+    for case in &cases {
+        let arguments: Vec<&str> = case.command.iter().map(String::as_str).collect();
+        let output = folder.run(&arguments);
+        let error = String::from_utf8_lossy(&output.stderr);
+        assert!(case.status == 1 || case.status == 2);
+        assert_eq!(
+            output.status.code(),
+            Some(case.status),
+            "{:?}\n{}",
+            arguments,
+            error
+        );
+        assert!(
+            matches(&case.error, &error),
+            "{:?} says\n{}\ninstead of\n{}",
+            arguments,
+            error,
+            case.error
+        );
+        assert_eq!(output.stdout, b"", "{:?}", arguments);
+        assert!(
+            contents(&folder) == before,
+            "{:?} changed a file",
+            arguments
+        );
+    }
+}
+
+#[test]
+fn the_comparison_notices_a_difference() {
+    assert!(matches("a ... c", "a b c"));
+    assert!(matches("a...", "a b c"));
+    assert!(!matches("a ... c", "a b d"));
+    assert!(!matches("a", "a b"));
+    assert!(!matches("b", "a b"));
+}
