@@ -12,8 +12,13 @@ help:
 	@echo "make more-edits the wrong versions that the gate leaves out for time"
 	@echo "make bench      measures both in one run and prints the ratios; the blank check by itself too"
 
+ARCHIVES := target/staticlib/libinterface.a target/staticlib/libinterface_replay.a
+PROVED := crates.txt $(shell find crates -path '*/must-fail*' -prune -o -type f \( -name '*.rt' -o -name '*.antt' \) -print)
+
+library: $(ARCHIVES)
+
 # rt check proves several crates at a time; rt staticlib then finds them proved.
-library:
+$(ARCHIVES) &: $(PROVED)
 	rt check interface interface_replay
 	rt staticlib interface
 	rt staticlib interface_replay
@@ -39,7 +44,7 @@ test: library test-c
 
 test-c: library
 	./setup
-	$(CC_X86) -std=c99 -Wall -Wextra -Werror -O1 -Iinclude tests/c/calls.c target/staticlib/libinterface.a target/staticlib/libinterface_replay.a -o target/calls
+	$(CC_X86) -std=c99 -Wall -Wextra -Werror -O1 -Iinclude tests/c/calls.c $(ARCHIVES) -o target/calls
 	$(RUN_X86) target/calls
 
 long-test: library

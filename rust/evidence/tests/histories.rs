@@ -88,12 +88,22 @@ fn number(name: &str, default: u32) -> u32 {
     }
 }
 
-/// HISTORIES says how many, SEED which ones.
+/// HISTORIES says how many, SEED which ones. Two tests share them, so that they run side by side.
 #[test]
 fn the_library_answers_as_the_model_does() {
+    compare(0, number("HISTORIES", HISTORIES) / 2);
+}
+
+#[test]
+fn and_so_it_does_on_as_many_others() {
     let count = number("HISTORIES", HISTORIES);
+    compare(1, count - count / 2);
+}
+
+fn compare(part: u8, count: u32) {
     let mut seed = [0x5A; 32];
     seed[..4].copy_from_slice(&number("SEED", 0).to_be_bytes());
+    seed[4] ^= part;
     let config = Config {
         cases: count,
         max_shrink_iters: 20_000,

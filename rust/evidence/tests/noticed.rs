@@ -31,11 +31,21 @@ fn in_cases(fault: Fault) -> Option<&'static str> {
         .map(|case| case.name)
 }
 
+/// Two tests share the faults, so that they run side by side.
 #[test]
-fn every_fault_is_noticed() {
+fn half_of_the_faults_are_noticed() {
+    notice(Fault::ALL.iter().step_by(2));
+}
+
+#[test]
+fn and_so_is_the_other_half() {
+    notice(Fault::ALL.iter().skip(1).step_by(2));
+}
+
+fn notice(faults: impl Iterator<Item = &'static Fault>) {
     let mut hidden = Vec::new();
     println!("fault: random histories until it was noticed; the first systematic case that did");
-    for &fault in Fault::ALL {
+    for &fault in faults {
         let (random, case) = (in_histories(fault), in_cases(fault));
         let histories = match &random {
             Some((number, _)) => number.to_string(),
