@@ -331,8 +331,8 @@ fn another_file_in_the_place_of_the_link_stays() {
 #[test]
 fn an_image_cut_short_by_another_program_ends_with_a_word() {
     let folder = Folder::new();
-    let mut serving = Some(Serving::start(&folder, "flash.bin", &[]));
-    let mut client = Client::open(&serving.as_ref().expect("running").port);
+    let serving = Serving::start(&folder, "flash.bin", &[]);
+    let mut client = Client::open(&serving.port);
     client.wake_up();
     let file = fs::OpenOptions::new()
         .write(true)
@@ -340,10 +340,7 @@ fn an_image_cut_short_by_another_program_ends_with_a_word() {
         .expect("the image");
     file.set_len(0).expect("the image cut short");
     client.send(&range(0x12, 0, 0x1FFF));
-    // it ends by itself; the signal then finds it gone
-    std::thread::sleep(Duration::from_millis(500));
-    let status = serving.take().expect("running").end(Signal::SIGTERM);
-    assert_eq!(status, Some(1));
+    assert_eq!(serving.ended(), Some(1));
     let log = String::from_utf8(folder.read("flash.bin.log")).expect("a log in words");
     assert!(log.contains("was cut short by another program"), "{}", log);
     assert!(!log.contains("erase (12h)"), "{}", log);

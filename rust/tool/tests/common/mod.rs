@@ -144,14 +144,19 @@ impl Serving {
     }
 
     /// Ends it by a signal; its exit status, or none if the signal killed it.
-    pub fn end(mut self, signal: Signal) -> Option<i32> {
+    pub fn end(self, signal: Signal) -> Option<i32> {
         self.signal(signal);
+        self.ended()
+    }
+
+    /// Waits until it has ended; its exit status, or none if a signal killed it.
+    pub fn ended(mut self) -> Option<i32> {
         let until = Instant::now() + PATIENCE;
         loop {
             if let Some(status) = self.child.try_wait().expect("the tool's end") {
                 return status.code();
             }
-            assert!(Instant::now() < until, "{} did not end it", signal);
+            assert!(Instant::now() < until, "it did not end");
             std::thread::sleep(Duration::from_millis(5));
         }
     }
