@@ -1,27 +1,13 @@
 //! The wrapper: owned devices, replies in order, refusals in words.
 
+mod common;
+
+use common::{packet, range};
 use indraveck::{Area, Device, Kind, Profile, Refusal, Stage};
 
 const WAKE: [u8; 3] = [0x00, 0x00, 0x55];
 const OK_13: [u8; 7] = [0x81, 0x00, 0x02, 0x13, 0x00, 0xEB, 0x03];
 const OK_12: [u8; 7] = [0x81, 0x00, 0x02, 0x12, 0x00, 0xEC, 0x03];
-
-fn packet(start: u8, contents: &[u8]) -> Vec<u8> {
-    let mut bytes = vec![start];
-    bytes.extend_from_slice(&(contents.len() as u16).to_be_bytes());
-    bytes.extend_from_slice(contents);
-    let sum = bytes[1..].iter().fold(0u8, |sum, b| sum.wrapping_add(*b));
-    bytes.push(sum.wrapping_neg());
-    bytes.push(0x03);
-    bytes
-}
-
-fn range(com: u8, sad: u32, ead: u32) -> Vec<u8> {
-    let mut contents = vec![com];
-    contents.extend_from_slice(&sad.to_be_bytes());
-    contents.extend_from_slice(&ead.to_be_bytes());
-    packet(0x01, &contents)
-}
 
 fn awake() -> Device<Vec<u8>> {
     let profile = Profile::bench();

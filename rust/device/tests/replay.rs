@@ -1,26 +1,12 @@
 //! The replay: a device's own line, recorded as it went, makes its image again.
 
+mod common;
+
+use common::{packet, range};
 use indraveck::{replay, Area, Device, Kind, Profile, Refusal};
 
 const HOST: u8 = 0x48;
 const DEVICE: u8 = 0x44;
-
-fn packet(start: u8, contents: &[u8]) -> Vec<u8> {
-    let mut bytes = vec![start];
-    bytes.extend_from_slice(&(contents.len() as u16).to_be_bytes());
-    bytes.extend_from_slice(contents);
-    let sum = bytes[1..].iter().fold(0u8, |sum, b| sum.wrapping_add(*b));
-    bytes.push(sum.wrapping_neg());
-    bytes.push(0x03);
-    bytes
-}
-
-fn range(com: u8, sad: u32, ead: u32) -> Vec<u8> {
-    let mut contents = vec![com];
-    contents.extend_from_slice(&sad.to_be_bytes());
-    contents.extend_from_slice(&ead.to_be_bytes());
-    packet(0x01, &contents)
-}
 
 fn record(recording: &mut Vec<u8>, direction: u8, bytes: &[u8]) {
     recording.extend_from_slice(&[0x52, 0x4C, direction]);
