@@ -39,7 +39,7 @@ if-limited : (l t : Bool) → (l ≡ true → t ≡ false) → (l && t) ≡ fals
 if-limited true t h = h refl
 if-limited false t h = refl
 
-somewhere : (r : Place) → (r ≡ Nowhere → ⊥) → nowhere r ≡ false
+pub somewhere : (r : Place) → (r ≡ Nowhere → ⊥) → nowhere r ≡ false
 somewhere (In spot) h = refl
 somewhere Nowhere h = absurd (h refl)
 

@@ -12,6 +12,11 @@ use Rattle.ranges.specs.declared.Purpose.{Purpose}
 use Rattle.ranges.specs.declared.Purpose.the-variants.{Erase, Write, Read}
 use Rattle.ranges.specs.Ranges.{limited}
 
+-- the address is found in area a
+pub record StartsIn (areas : List Area) (s : ℕ) (a : Area) : Type 0 where
+  pub base : ℕ
+  pub found : placeOf areas s ≡ In (record { area = a; base = base })
+
 -- the range lies in the area in which its start is found
 pub record InArea (areas : List Area) (s e : ℕ) (spot : Spot) : Type 0 where
   pub found : placeOf areas s ≡ In spot

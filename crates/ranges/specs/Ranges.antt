@@ -1,7 +1,7 @@
 -- The checks on a range of addresses, SAD to EAD: D0h, then DAh. Commands and "a state fits" both use them.
 use mathlib.Core.Bool.{Bool, true, false, _&&_, not}
 use mathlib.Core.List.{List, [], _∷_, _++_}
-use mathlib.Core.Option.{none}
+use mathlib.Core.Option.{Option, none, some}
 use mathlib.Core.Path.{_≡_}
 use Prim.Native.Nat.{ℕ, _+_, _%_}
 use lib.Dec.{leb, ltb, eqb}
@@ -44,6 +44,15 @@ unfoldable pub purposeChecks : Purpose → Area → Window → ℕ → ℕ → L
 purposeChecks Erase a w s e = changeChecks a w (a .eau) s e
 purposeChecks Write a w s e = changeChecks a w (a .wau) s e
 purposeChecks Read a w s e = []
+
+-- no fault was found
+abbrev pub passes : Option Reason → Bool
+passes none = true
+passes (some reason) = false
+
+-- a range that starts in area a may be asked for: a holds its end too, and no check of the purpose applies
+unfoldable pub withinOf : Area → Window → Purpose → ℕ → ℕ → Bool
+withinOf a w purpose s e = inside a e && passes (firstFault (purposeChecks purpose a w s e))
 
 abbrev pub nowhere : Place → Bool
 nowhere (In spot) = false

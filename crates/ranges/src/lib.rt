@@ -2,7 +2,8 @@
 ghost use mathlib.Core.Path.{_≡_};
 ghost use Rattle.verdict.specs.Check.{firstFault, verdictOf};
 ghost use Rattle.profile.specs.Areas.{areasOf};
-ghost use Rattle.ranges.specs.Ranges.{unitChecks, windowChecks, changeChecks, purposeChecks, endChecks, rangeChecks};
+ghost use Rattle.ranges.specs.Ranges.{unitChecks, windowChecks, changeChecks, purposeChecks, withinOf, endChecks, rangeChecks};
+ghost use Rattle.ranges.specs.InArea.{StartsIn};
 use profile::Area;
 use profile::Place;
 use profile::Profile;
@@ -72,7 +73,21 @@ fn check_purpose(area: Area, window: Window, purpose: Purpose, sad: u32, ead: u3
     }
 }
 
-// The range starts in the area.
+// Whether the range from SAD, which lies in the area, to EAD may be asked for.
+pub fn within(area: Area, window: Window, purpose: Purpose, sad: u32, ead: u32) -> bool
+    ensures { λ r. ⌜ r ≡ withinOf area window purpose sad ead ⌝ }
+{
+    if !profile::holds(area, ead) {
+        return false;
+    }
+    let found = check_purpose(area, window, purpose, sad, ead);
+    match found {
+        Verdict::Granted => true,
+        Verdict::Refused(_) => false,
+    }
+}
+
+// The range starts in the area. EAD is searched for only where the area does not hold it, to tell why.
 fn check_end(
     profile: Profile,
     area: Area,
@@ -81,17 +96,16 @@ fn check_end(
     sad: u32,
     ead: u32,
 ) -> Verdict
+    requires { ⌜ StartsIn (areasOf profile) sad area ⌝ }
     ensures { λ r. ⌜ r ≡ verdictOf (firstFault (endChecks (areasOf profile) area window purpose sad ead)) ⌝ }
 {
+    if profile::holds(area, ead) {
+        return check_purpose(area, window, purpose, sad, ead);
+    }
     let end = profile::locate(profile, ead);
     match end {
         Place::Nowhere => Verdict::Refused(Reason::EndNowhere),
-        Place::In(_) => {
-            if !profile::holds(area, ead) {
-                return Verdict::Refused(Reason::TwoAreas);
-            }
-            check_purpose(area, window, purpose, sad, ead)
-        }
+        Place::In(_) => Verdict::Refused(Reason::TwoAreas),
     }
 }
 

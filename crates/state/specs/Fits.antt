@@ -1,11 +1,9 @@
 -- When a state fits the profile and the receive buffer.
 use mathlib.Core.Bool.{Bool, true, false, _&&_}
 use mathlib.Core.List.{List}
-use mathlib.Core.Option.{Option, none, some}
 use Prim.Native.Nat.{ℕ, _+_, _-_}
 use lib.ListN.{length, take}
 use lib.Dec.{leb, eqb}
-use Rattle.verdict.specs.declared.Reason.{Reason}
 use Rattle.verdict.specs.Check.{firstFault}
 use Rattle.profile.specs.declared.Area.{Area}
 use Rattle.profile.specs.declared.Profile.{Profile}
@@ -14,6 +12,7 @@ use Rattle.profile.specs.Areas.{areasOf}
 use Rattle.ranges.specs.declared.Purpose.{Purpose}
 use Rattle.ranges.specs.declared.Purpose.the-variants.{Write, Read}
 use Rattle.ranges.specs.Ranges.{rangeChecks}
+pub use Rattle.ranges.specs.Ranges.{passes}
 use Rattle.packet.specs.declared.Kind.{Kind}
 use Rattle.packet.specs.declared.Kind.the-variants.{Command as CommandPacket, Data as DataPacket}
 use Rattle.packet.specs.declared.Progress.{Progress}
@@ -32,10 +31,6 @@ isPartial Partial = true
 isPartial Unfit = false
 isPartial Complete = false
 isPartial Excess = false
-
-abbrev pub passes : Option Reason → Bool
-passes none = true
-passes (some reason) = false
 
 -- a range with at least one byte left, of addresses of 32 bits, that the purpose permits
 unfoldable pub rangeFits : List Area → Window → Purpose → Range → Bool

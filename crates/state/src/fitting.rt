@@ -8,10 +8,10 @@ use crate::Stage;
 use crate::State;
 use packet::Kind;
 use packet::Progress;
+use profile::Place;
 use profile::Profile;
 use profile::Window;
 use ranges::Purpose;
-use verdict::Verdict;
 
 // Whether the bytes are an incomplete packet of the kind.
 fn waits(held: &[u8], kind: Kind) -> bool
@@ -27,7 +27,8 @@ fn waits(held: &[u8], kind: Kind) -> bool
     }
 }
 
-fn held_fits(stage: Stage, held: &[u8]) -> bool
+// Whether held bytes may await their rest in the stage.
+pub fn held_fits(stage: Stage, held: &[u8]) -> bool
     ensures { λ r. ⌜ r ≡ heldFits stage (now (held .entry)) ⌝ }
 {
     match stage {
@@ -39,6 +40,7 @@ fn held_fits(stage: Stage, held: &[u8]) -> bool
     }
 }
 
+// Whether a range may be under way. One search tells: the area where the range goes on has to hold its end too.
 fn range_fits(profile: Profile, window: Window, purpose: Purpose, range: Range) -> bool
     ensures { λ r. ⌜ r ≡ rangeFits (areasOf profile) window purpose range ⌝ }
 {
@@ -50,10 +52,13 @@ fn range_fits(profile: Profile, window: Window, purpose: Purpose, range: Range) 
         return false;
     }
     let last = (behind - 1) as u32;
-    let found = ranges::check_range(profile, window, purpose, range.next, last);
-    match found {
-        Verdict::Granted => true,
-        Verdict::Refused(_) => false,
+    let place = profile::locate(profile, range.next);
+    match place {
+        Place::Nowhere => false,
+        Place::In(spot) => {
+            let area = spot.area;
+            ranges::within(area, window, purpose, range.next, last)
+        }
     }
 }
 

@@ -21,7 +21,11 @@ enum-known-start : tie.Need-enum-known-start
 enum-known-start c = search needs
 
 check-end-requires : tie.Need-check-end-requires
-check-end-requires c κs = search needs
+check-end-requires c κs =
+    record {
+      base = c .before .before .start .given .0 .0 .base;
+      found = sym (c .before .before .before .before .locate .ensures .is) ∙ c .before .before .start .given .1;
+    }
 
 returns-2 : tie.Need-returns-2
 unfolding rangeChecks firstFault
