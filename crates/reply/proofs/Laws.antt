@@ -1,12 +1,12 @@
--- What copying bytes, writing a buffer from its front and answering for it need. Assumes nothing.
+-- What copying and summing bytes, writing a buffer from its front and answering for it need. Assumes nothing.
 use mathlib.Core.Bool.{true, false, and-false}
 use mathlib.Core.List.{List, [], _∷_, _++_, append-assoc}
 use mathlib.Core.Path.{_≡_, refl, sym, ap, _∙_}
 use Prim.Native.Nat.{ℕ, _+_, _-_, _%_, _^_, _≤_, _<_}
 use native.Mathlib.Numerals.{add-one}
 use native.Mathlib.Omega.{arith}
-use lib.ListN.{length, take, drop, getD, set, length-set, length-append, length-drop}
-use lib.Seq.{sets, sets-eq, take-suc, take-suc-set, take-all, take-at, drop-at, drop-drop, take-append-seam}
+use lib.ListN.{length, take, drop, getD, set, length-set, length-append, length-drop, drop-of-length-le}
+use lib.Seq.{sets, sets-eq, take-suc, take-suc-set, take-all, drop-at, drop-drop, take-append-seam}
 use lib.Dec.{leb}
 use borrow.Author.Tests.{le-leb, lt-leb}
 use Rattle.numbers.specs.Bytes.{bytesOf, field, withNumber}
@@ -27,6 +27,13 @@ copy-end to from i l h e =
     let k : length to ≤ i = omega arith in
     sym (take-all i to k) ∙ e ∙ take-all i from h
 
+-- all bytes are summed: t is the whole sum
+pub sum-end : (l : List ℕ) (i t : ℕ) → length l ≤ i → t < 256 → (t + totalOf (drop i l)) % 256 ≡ totalOf l % 256 → t ≡ totalOf l % 256
+unfolding totalOf
+sum-end l i t h k e =
+    let z : totalOf (drop i l) ≡ 0 = ap totalOf (drop-of-length-le l h) in
+    omega arith
+
 -- start byte, length and RES
 pub head-put : (b after : List ℕ) (res m : ℕ) → 4 ≤ length b → after ≡ withNumber 2 m 1 (set b 0 0x81)
     → set after 3 res ≡ front (startOf Data ∷ bytesOf 2 m ++ res ∷ []) b
@@ -34,6 +41,11 @@ unfolding withNumber bytesOf front
 head-put b after res m h e =
     let t : leb 3 (length (set b 0 0x81)) ≡ true = le-leb 3 (length (set b 0 0x81)) (rw (length-set b 0 0x81) (omega arith)) in
     rw (e, t) (sets-eq (0x81 ∷ bytesOf 2 m ++ res ∷ []) b 0 h)
+
+-- a sum modulo 256 in two parts
+pub sum-parts : (bs : List ℕ) (d t s : ℕ) → t ≡ totalOf bs % 256 → s ≡ (t + d) % 2 ^ 8 → s ≡ totalOf (d ∷ bs) % 256
+unfolding totalOf
+sum-parts bs d t s e f = omega arith
 
 -- SUM and ETX, where v with a sum s makes 0
 pub end-put : (b bs : List ℕ) (end s v : ℕ) → s ≡ totalOf bs % 256 → (v + s) % 2 ^ 8 ≡ 0 → v < 256
@@ -63,18 +75,23 @@ module _ (p b : List ℕ) where
       ∙ ap (λ (rest : List ℕ). take n (front p b) ++ (vs ++ rest)) (sym (drop-drop (length vs) n (front p b)))
       ∙ front-part n (length vs) vs e refl
 
--- a list with SUM and ETX behind its first n bytes
-abbrev ended : List ℕ → ℕ → List ℕ
-ended l n = sets l n (lack (field (n - 1) 1 l) ∷ 0x03 ∷ [])
+-- the sum of the data stands for the data
+lack-data : (bytes : List ℕ) (d x y z : ℕ) → d ≡ totalOf bytes % 256 → lack (d ∷ x ∷ y ∷ z ∷ []) ≡ lack (x ∷ y ∷ z ∷ bytes)
+unfolding lack totalOf
+lack-data bytes d x y z e = omega arith
+
+-- a list with SUM and ETX behind its first n bytes, where d is the sum of the data
+abbrev ended : List ℕ → ℕ → ℕ → List ℕ
+ended l n d = sets l n (lack (d ∷ field 3 1 l) ∷ 0x03 ∷ [])
 
 -- behind start byte, length and contents they make the packet
-frame-ended : (contents b : List ℕ) (n : ℕ) → n ≡ length contents + 3 → length contents + 5 ≤ length b
-    → ended (front (startOf Data ∷ counted contents) b) n ≡ front (frame Data contents) b
+frame-ended : (bytes b : List ℕ) (res n d : ℕ) → n ≡ length bytes + 4 → length bytes + 6 ≤ length b → d ≡ totalOf bytes % 256
+    → ended (front (startOf Data ∷ counted (dataContents res bytes)) b) n d ≡ front (dataReply res bytes) b
 unfolding frame front bytesOf
-frame-ended contents b n e h =
+frame-ended bytes b res n d e h s =
+    let contents : List ℕ = dataContents res bytes in
     let p : List ℕ = startOf Data ∷ counted contents in
-    let l : length (counted contents) ≡ n - 1 = omega arith in
-    let f : field (n - 1) 1 (front p b) ≡ counted contents = take-at (counted contents) (drop (length p) b) (n - 1) l in
+    let f : lack (d ∷ field 3 1 (front p b)) ≡ lack (counted contents) = lack-data bytes d _ _ res s in
     let k : n ≡ length p = omega arith in
     rw f (front-sets p b n (lack (counted contents) ∷ 0x03 ∷ []) k (omega arith))
 
@@ -95,18 +112,19 @@ data-put b bytes res =
     front-part p b 4 (n + 4 - 4) bytes refl k ∙ ap (λ (l : List ℕ). front l b) q
 
 -- head, data and end of a packet
-pub frame-put : (b head copied after bytes : List ℕ) (res : ℕ) → length bytes + 6 ≤ length b
+pub frame-put : (b head copied after bytes : List ℕ) (res d : ℕ) → length bytes + 6 ≤ length b
     → head ≡ front (startOf Data ∷ bytesOf 2 (length bytes + 1) ++ res ∷ []) b
     → copied ≡ bytes
-    → after ≡ ended (withData head (length bytes) copied) (length bytes + 4)
+    → d ≡ totalOf bytes % 256
+    → after ≡ ended (withData head (length bytes) copied) (length bytes + 4) d
     → after ≡ front (dataReply res bytes) b
-frame-put b head copied after bytes res h eh ec ea =
+frame-put b head copied after bytes res d h eh ec ed ea =
     let n : ℕ = length bytes in
     ea
-    ∙ ap (λ (l : List ℕ). ended (withData l n copied) (n + 4)) eh
-    ∙ ap (λ (d : List ℕ). ended (withData (front (startOf Data ∷ bytesOf 2 (n + 1) ++ res ∷ []) b) n d) (n + 4)) ec
-    ∙ ap (λ (l : List ℕ). ended l (n + 4)) (data-put b bytes res)
-    ∙ frame-ended (dataContents res bytes) b (n + 4) (omega arith) (omega arith)
+    ∙ ap (λ (l : List ℕ). ended (withData l n copied) (n + 4) d) eh
+    ∙ ap (λ (m : List ℕ). ended (withData (front (startOf Data ∷ bytesOf 2 (n + 1) ++ res ∷ []) b) n m) (n + 4) d) ec
+    ∙ ap (λ (l : List ℕ). ended l (n + 4) d) (data-put b bytes res)
+    ∙ frame-ended bytes b res (n + 4) d refl h ed
 
 -- a packet that is too long or has no room, and one that has it
 pub refused : (contents b : List ℕ) → hasRoom contents b ≡ false → Placed contents b b 0

@@ -1,12 +1,12 @@
 // Replies: status and data packets at the front of a buffer that the caller lends.
 ghost use mathlib.Core.Path.{_≡_};
 ghost use mathlib.Core.List.{[], _∷_, _++_};
-ghost use Prim.Native.Nat.{_+_, _-_, _≤_};
+ghost use Prim.Native.Nat.{_+_, _%_, _≤_};
 ghost use lib.ListN.{length};
 ghost use lib.Seq.{sets};
 ghost use Rattle.numbers.specs.Bytes.{bytesOf, field};
 ghost use Rattle.packet.specs.declared.Kind.the-variants.{Data};
-ghost use Rattle.packet.specs.Packet.{startOf, lack};
+ghost use Rattle.packet.specs.Packet.{startOf, totalOf, lack};
 ghost use Rattle.reply.specs.Reply.{resOf, Placed, dataContents, statusContents, dataReply, front};
 use verdict::Verdict;
 
@@ -26,16 +26,20 @@ pub fn res(request: u8, verdict: Verdict) -> u8
     }
 }
 
-// All bytes of one slice into another of the same length: a loop that the compiler does in blocks.
-fn copy(to: &mut [u8], from: &[u8])
+// All bytes of one slice into another of the same length, and their sum modulo 256: one walk, which the compiler does in blocks.
+fn copy_sum(to: &mut [u8], from: &[u8]) -> u8
     requires { ⌜ length (now to) ≡ length (now from) ⌝ }
-    ensures { λ _. ⌜ now (to .exit) ≡ now (from .entry) ⌝ }
+    ensures { λ r. ⌜ (now (to .exit) ≡ now (from .entry)) × (r ≡ totalOf (now (from .entry)) % 256) ⌝ }
 {
+    let mut t: u8 = 0;
     let mut i = 0;
     while i < from.len() {
-        to[i] = from[i];
+        let b = from[i];
+        t = std::num::wrapping_add_u8(t, b);
+        to[i] = b;
         i += 1;
     }
+    t
 }
 
 // What a data packet has before its data: start byte, length of RES and data, RES.
@@ -48,12 +52,12 @@ fn put_head(buffer: &mut [u8], res: u8, n: usize)
     buffer[3] = res;
 }
 
-// What a packet has behind its contents, which end before `end`: SUM over all but the start byte, and ETX.
-fn put_end(buffer: &mut [u8], end: usize)
-    requires { ⌜ (1 ≤ end) × (end + 2 ≤ length (now buffer)) ⌝ }
-    ensures { λ _. ⌜ now (buffer .exit) ≡ sets (now (buffer .entry)) end (lack (field (end - 1) 1 (now (buffer .entry))) ∷ 0x03 ∷ []) ⌝ }
+// SUM and ETX behind contents that end before `end`. `data` is the sum of the bytes behind RES, and stands for them in SUM.
+fn put_end(buffer: &mut [u8], end: usize, data: u8)
+    requires { ⌜ (4 ≤ end) × (end + 2 ≤ length (now buffer)) ⌝ }
+    ensures { λ _. ⌜ now (buffer .exit) ≡ sets (now (buffer .entry)) end (lack («data» ∷ field 3 1 (now (buffer .entry))) ∷ 0x03 ∷ []) ⌝ }
 {
-    let sum = packet::sum(&buffer[1..end]);
+    let sum = std::num::wrapping_add_u8(packet::sum(&buffer[1..4]), data);
     buffer[end] = std::num::wrapping_sub_u8(0, sum);
     buffer[end + 1] = 0x03;
 }
@@ -66,8 +70,8 @@ fn put_frame(buffer: &mut [u8], res: u8, bytes: &[u8]) -> usize
     let n = bytes.len();
     let end = n + 4;
     put_head(buffer, res, n);
-    copy(&mut buffer[4..end], bytes);
-    put_end(buffer, end);
+    let data = copy_sum(&mut buffer[4..end], bytes);
+    put_end(buffer, end, data);
     end + 2
 }
 

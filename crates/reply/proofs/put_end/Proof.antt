@@ -1,8 +1,8 @@
--- `reply::put_end` meets its contract. What the sum lacks to 256 is SUM. Assumes nothing.
+-- `reply::put_end` meets its contract. What the sum of head and data lacks to 256 is SUM. Assumes nothing.
 use native.Mathlib.Omega.{arith}
 use lib.ListN.{length-set}
 use borrow.Author.Needs.{needs}
-use Rattle.reply.proofs.Laws.{end-put}
+use Rattle.reply.proofs.Laws.{sum-parts, end-put}
 use Rattle.reply.proofs.put_end.Statement.{statement}
 use Rattle.reply.proofs.put_end.Tie as tie
 
@@ -17,6 +17,9 @@ part-sum-end c = search needs
 
 sum-requires : tie.Need-sum-requires
 sum-requires c κs = search needs
+
+wrapping-add-u8-requires : tie.Need-wrapping-add-u8-requires
+wrapping-add-u8-requires c κs = search needs
 
 wrapping-sub-u8-requires : tie.Need-wrapping-sub-u8-requires
 wrapping-sub-u8-requires c κs = search needs
@@ -35,10 +38,11 @@ same-length c = search needs
 
 returns : tie.Need-returns
 returns c =
-    let a = c .before .before .before .before .before .args in
-    let s = c .before .sum in
+    let a = c .before .before .before .before .before .before .args in
+    let s = c .before .before .sum in
+    let w = c .before .wrapping-add-u8 in
     let v = c .wrapping-sub-u8 in
-    end-put (a .buffer .now) _ (a .end) (s .result) (v .result) (s .ensures) (v .ensures) (omega arith)
+    end-put (a .buffer .now) _ (a .end) (w .result) (v .result) (sum-parts _ (a .«data») (s .result) (w .result) (s .ensures) (w .ensures)) (v .ensures) (omega arith)
 
 pub put-end-spec : {M : Type 1} → statement M
 put-end-spec =
@@ -48,6 +52,7 @@ put-end-spec =
     part-sum-start
     part-sum-end
     sum-requires
+    wrapping-add-u8-requires
     wrapping-sub-u8-requires
     slice-write-buffer
     add-buffer

@@ -11,17 +11,17 @@ add-end c = search needs
 put-head-requires : tie.Need-put-head-requires
 put-head-requires c κs = search needs
 
-sub-copy : tie.Need-sub-copy
-sub-copy c = search needs
+sub-copy-sum : tie.Need-sub-copy-sum
+sub-copy-sum c = search needs
 
-part-copy-start : tie.Need-part-copy-start
-part-copy-start c = search needs
+part-copy-sum-start : tie.Need-part-copy-sum-start
+part-copy-sum-start c = search needs
 
-part-copy-end : tie.Need-part-copy-end
-part-copy-end c = search needs
+part-copy-sum-end : tie.Need-part-copy-sum-end
+part-copy-sum-end c = search needs
 
-copy-requires : tie.Need-copy-requires
-copy-requires c κs = search needs
+copy-sum-requires : tie.Need-copy-sum-requires
+copy-sum-requires c κs = search needs
 
 put-end-requires : tie.Need-put-end-requires
 put-end-requires c κs = search needs
@@ -36,10 +36,10 @@ returns : tie.Need-returns
 returns c =
     let a = c .before .before .before .before .before .before .before .before .before .before .before .before .before .before .args in
     let h = c .before .before .before .before .before .before .before .before .before .before .put-head in
-    let d = c .before .before .before .before .before .before .copy in
+    let d = c .before .before .before .before .before .before .copy-sum in
     let e = c .before .before .put-end in (
       omega arith,
-      frame-put (a .buffer .now) (h .last .0) (d .last .0) (e .last .0) (a .bytes .now) (a .res) (omega arith) (h .ensures) (d .ensures) (e .ensures),
+      frame-put (a .buffer .now) (h .last .0) (d .last .0) (e .last .0) (a .bytes .now) (a .res) (d .result) (omega arith) (h .ensures) (d .ensures .0) (d .ensures .1) (e .ensures),
     )
 
 pub put-frame-spec : {M : Type 1} → statement M
@@ -48,10 +48,10 @@ put-frame-spec =
     (tie.spec
     add-end
     put-head-requires
-    sub-copy
-    part-copy-start
-    part-copy-end
-    copy-requires
+    sub-copy-sum
+    part-copy-sum-start
+    part-copy-sum-end
+    copy-sum-requires
     put-end-requires
     add-result
     same-length
