@@ -3,12 +3,12 @@ use mathlib.Core.Bool.{Bool, true, false}
 use mathlib.Core.List.{List, [], _∷_, _++_}
 use mathlib.Core.Path.{_≡_, refl, sym, ap, _∙_}
 use Prim.Native.Nat.{ℕ, zero, suc, _+_, _≤_, _<_}
-use native.Mathlib.Nat.{add-zero}
+use native.Mathlib.Nat.{suc-add}
 use native.Mathlib.Numerals.{add-one}
 use native.Mathlib.Omega.{arith}
 use lib.Dec.{leb}
-use lib.ListN.{length, take, drop, getD, set}
-use lib.Seq.{drop-cons, take-all, take-suc-set}
+use lib.ListN.{length, take, drop, getD, replicate}
+use lib.Seq.{drop-cons, drop-nil, take-nil, take-all}
 use borrow.Author.Tests.{leb-true}
 use Rattle.numbers.specs.declared.Number.the-variants.{Is, CutShort}
 use Rattle.numbers.specs.Bytes.{number, field, numberAt}
@@ -25,24 +25,24 @@ from-part (suc n) at l h =
 pub spelled : (n : ℕ) (l : List ℕ) → length l ≡ n → bytesFrom n 0 l ≡ l
 spelled n l h = let k : length l ≤ n = omega arith in from-part n 0 l (omega arith) ∙ take-all n l k
 
--- one entry more
-from-more : (n at : ℕ) (l : List ℕ) → bytesFrom (n + 1) at l ≡ bytesFrom n at l ++ (getD l (at + n) 0 ∷ [])
+-- a list that is one entry longer has them one place further
+one-further : (n at x : ℕ) (l : List ℕ) → bytesFrom n (suc at) (x ∷ l) ≡ bytesFrom n at l
 unfolding bytesFrom
-from-more zero at l = rw (add-zero at) refl
-from-more (suc n) at l =
-    let e : suc n + 1 ≡ suc (n + 1) = omega arith in
-    let f : at + suc n ≡ at + 1 + n = omega arith in
-    rw (e, f) (ap (λ (t : List ℕ). getD l at 0 ∷ t) (from-more n (at + 1) l))
+one-further zero at x l = refl
+one-further (suc n) at x l = rw (suc-add at 1) (ap (λ (t : List ℕ). getD l at 0 ∷ t) (one-further n (at + 1) x l))
 
--- entries that are copied one at a time
-pub copied-more : (l d : List ℕ) (at i b : ℕ) → take i d ≡ bytesFrom i at l → i < length d → b ≡ getD l (at + i) 0
-    → take (i + 1) (set d i b) ≡ bytesFrom (i + 1) at l
-copied-more l d at i b done h e = rw (from-more i at l, add-one i, take-suc-set d i b h, done, e) refl
+-- what the list lacks is 0
+none-there : (n at : ℕ) → bytesFrom n at [] ≡ replicate n 0
+unfolding bytesFrom
+none-there zero at = refl
+none-there (suc n) at = ap (λ (t : List ℕ). 0 ∷ t) (none-there n (at + 1))
 
-pub copied-all : (l d : List ℕ) (at i n : ℕ) → take i d ≡ bytesFrom i at l → i ≡ n → length d ≡ n → d ≡ bytesFrom n at l
-copied-all l d at i n done e h =
-    let k : length d ≤ i = omega arith in
-    sym (take-all i d k) ∙ done ∙ ap (λ (j : ℕ). bytesFrom j at l) e
+pub from-there : (n at : ℕ) (l : List ℕ) → bytesFrom n at l ≡ take n (drop at l) ++ drop (length (take n (drop at l))) (replicate n 0)
+unfolding bytesFrom
+from-there n at [] = rw (drop-nil at, take-nil n) (none-there n at)
+from-there zero zero (x ∷ l) = refl
+from-there (suc n) zero (x ∷ l) = ap (λ (t : List ℕ). x ∷ t) (one-further n 0 x l ∙ from-there n 0 l)
+from-there n (suc at) (x ∷ l) = one-further n at x l ∙ from-there n at l
 
 -- two bytes make a number of two bytes
 pub two-small : (s : List ℕ) (at n : ℕ) → ((i : ℕ) → getD s i 0 < 256) → Is n ≡ numberAt 2 s at → n < 65536

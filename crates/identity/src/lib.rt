@@ -1,8 +1,8 @@
 // The ID code: where it is stored, and what a code that is sent to the device is answered.
 ghost use mathlib.Core.List.{_++_};
 ghost use mathlib.Core.Path.{_≡_};
-ghost use Prim.Native.Nat.{_≤_};
-ghost use lib.ListN.{take, drop, getD};
+ghost use Prim.Native.Nat.{_≤_, min};
+ghost use lib.ListN.{take, drop};
 ghost use Rattle.verdict.specs.Check.{firstFault, verdictOf};
 ghost use Rattle.profile.specs.Areas.{areasOf};
 ghost use Rattle.identity.specs.Identity.{Configured, noId, idOf, isNone, eraseCode, totalErase, idChecks};
@@ -51,24 +51,22 @@ fn config_area(profile: Profile) -> Place
     Place::Nowhere
 }
 
-// The byte at a place of the image; FFh where it has none.
-fn byte_at(image: &[u8], at: usize) -> u8
-    ensures { λ r. ⌜ r ≡ getD (now (image .entry)) at 0xFF ⌝ }
+// The smaller of the two.
+fn lower(a: usize, b: usize) -> usize
+    ensures { λ r. ⌜ r ≡ min a b ⌝ }
 {
-    if at < image.len() { image[at] } else { 0xFF }
+    if a < b { a } else { b }
 }
 
-// Sixteen bytes of the image from a place on; FFh where it has none.
+// Sixteen bytes of the image from a place on, in one copy; FFh where it has none.
 fn sixteen(image: &[u8], base: usize) -> [u8; 16]
     requires { ⌜ base ≤ 34359738368 ⌝ }
     ensures { λ r. ⌜ r ≡ take 16 (drop base (now (image .entry)) ++ noId) ⌝ }
 {
     let mut id = [0xFFu8; 16];
-    let mut i = 0;
-    while i < 16 {
-        id[i] = byte_at(image, base + i);
-        i += 1;
-    }
+    let from = lower(base, image.len());
+    let end = lower(base + 16, image.len());
+    bytes::copy(&image[from..end], &mut id);
     id
 }
 

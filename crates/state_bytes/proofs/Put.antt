@@ -1,11 +1,10 @@
 -- The state's parts, put one after the other into 33 bytes, are all of them. Assumes nothing.
-use mathlib.Core.List.{List, [], _∷_, _++_}
+use mathlib.Core.List.{List, [], _∷_, _++_, append-nil, append-assoc}
 use mathlib.Core.Path.{_≡_, refl, sym, ap, _∙_}
-use Prim.Native.Nat.{ℕ, _+_, _%_, _≤_, _<_}
-use native.Mathlib.Numerals.{add-one}
+use Prim.Native.Nat.{ℕ, _+_, _%_, _≤_}
 use native.Mathlib.Omega.{arith}
-use lib.ListN.{length, set, getD, length-set}
-use lib.Seq.{sets, length-sets, paste, paste-suc}
+use lib.ListN.{length, take, drop, set, length-set, length-drop, drop-of-length-le}
+use lib.Seq.{sets, length-sets, paste, drop-drop, length-take-le}
 use borrow.Author.Tests.{le-leb}
 use Rattle.numbers.specs.Bytes.{bytesOf, withNumber}
 use Rattle.baud.specs.declared.LineSetting.{LineSetting}
@@ -36,9 +35,14 @@ stage-put stage l l₁ l₂ n pulses r h e f g p q =
     let v : l₂ ≡ sets l₁ 6 (bytesOf 4 (r .left)) = q ∙ with-room 4 (r .left) 6 l₁ (omega arith) in
     v ∙ ap (λ (k : List ℕ). sets k 6 (bytesOf 4 (r .left))) u ∙ rw (e, f, g) refl
 
--- the ID, one byte more
-pub id-more : (id d l : List ℕ) (i : ℕ) → length d ≡ 33 → length id ≡ 16 → i < 16 → l ≡ paste d 10 id i → set l (10 + i) (getD id i 0) ≡ paste d 10 id (i + 1)
-id-more id d l i h k b e = rw (e, add-one i) (paste-suc d 10 id i 0 (omega arith) (omega arith))
+-- the ID, copied over the sixteen bytes from place 10 on
+pub id-put : (id d new : List ℕ) → length d ≡ 33 → length id ≡ 16 → new ≡ take (length id) id ++ drop (length id) (take 16 (drop 10 d))
+    → take 10 d ++ (new ++ drop 16 (drop 10 d)) ≡ paste d 10 id 16
+id-put id d new h k e =
+    let m : 16 ≤ length (drop 10 d) = rw length-drop (omega arith) in
+    let o : length (take 16 (drop 10 d)) ≤ 16 = omega (arith, length-take-le 16 (drop 10 d) m) in
+    let f : new ≡ take 16 id = e ∙ rw (k, drop-of-length-le (take 16 (drop 10 d)) o) (append-nil (take 16 id)) in
+    rw (f, drop-drop) (sym (append-assoc (take 10 d) (take 16 id) (drop 26 d)))
 
 pub line-put : (line : LineSetting) (held : ℕ) (l l₁ : List ℕ) → length l ≡ 33
     → l₁ ≡ withNumber 4 (held % 4294967296) 29 (set (set (set l 26 (line .abcs)) 27 (line .brr)) 28 (line .mddr))

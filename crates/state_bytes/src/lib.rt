@@ -2,6 +2,7 @@
 ghost use mathlib.Core.Bool.{_&&_};
 ghost use mathlib.Core.List.{[], _∷_, _++_};
 ghost use mathlib.Core.Path.{_≡_};
+ghost use Prim.Native.Nat.{min};
 ghost use lib.Dec.{eqb};
 ghost use lib.ListN.{length};
 ghost use lib.Seq.{sets, paste};
@@ -88,16 +89,21 @@ pub fn stage_in(bytes: &[u8]) -> StageIn
     stage_of(fields::byte_at(bytes, 0), fields::byte_at(bytes, 1), range)
 }
 
-// The sixteen bytes of the ID.
+// The smaller of the two.
+fn lower(a: usize, b: usize) -> usize
+    ensures { λ r. ⌜ r ≡ min a b ⌝ }
+{
+    if a < b { a } else { b }
+}
+
+// The sixteen bytes of the ID, in one copy; 0 where they are not there.
 fn id_in(bytes: &[u8]) -> [u8; 16]
     ensures { λ r. ⌜ r ≡ bytesFrom 16 10 (now (bytes .entry)) ⌝ }
 {
     let mut id = [0u8; 16];
-    let mut i = 0;
-    while i < 16 {
-        id[i] = fields::byte_at(bytes, 10 + i);
-        i += 1;
-    }
+    let from = lower(10, bytes.len());
+    let end = lower(26, bytes.len());
+    bytes::copy(&bytes[from..end], &mut id);
     id
 }
 
@@ -177,16 +183,12 @@ fn put_stage(bytes: &mut [u8], stage: Stage)
     numbers::write_four(bytes, 6, range.left);
 }
 
-// The ID, in bytes 10 to 25.
+// The ID, in bytes 10 to 25, in one copy.
 fn put_id(bytes: &mut [u8], id: [u8; 16])
     requires { ⌜ length (now bytes) ≡ 33 ⌝ }
     ensures { λ _. ⌜ now (bytes .exit) ≡ paste (now (bytes .entry)) 10 id 16 ⌝ }
 {
-    let mut i = 0;
-    while i < 16 {
-        bytes[10 + i] = id[i];
-        i += 1;
-    }
+    bytes::copy(&id, &mut bytes[10..26]);
 }
 
 // Line and held count, in bytes 26 to 32.

@@ -1,62 +1,57 @@
--- `identity::sixteen` meets its contract. The loop's invariant: the first `i` bytes are those of the image padded with FFh. Assumes nothing.
-use mathlib.Core.List.{_++_}
-use mathlib.Core.Path.{_≡_, refl}
-use Prim.Native.Nat.{_-_, _≤_}
-use native.Mathlib.Omega.{arith}
-use lib.ListN.{length, take, drop}
+-- `identity::sixteen` meets its contract. The part is copied to the front of sixteen FFh, which stay where the image has no bytes. Assumes nothing.
+use mathlib.Core.Path.{_∙_}
+use lib.ListN.{drop}
 use borrow.Author.Needs.{needs}
 use Rattle.identity.specs.Identity.{noId}
-use Rattle.identity.proofs.Padded.{byte-more, all-bytes}
+use Rattle.identity.proofs.Padded.{laid, padded}
 use Rattle.identity.proofs.sixteen.Statement.{statement}
 use Rattle.identity.proofs.sixteen.Tie as tie
 
-abbrev Inv-loop : tie.InvT-loop
-Inv-loop image base id₀ i₀ id i = (i ≤ 16) × (length id ≡ 16) × (take i id ≡ take i (drop base image ++ noId))
+lower-requires : tie.Need-lower-requires
+lower-requires c κs = search needs
 
-abbrev μ-loop : tie.MeasureT-loop
-μ-loop image base id₀ i₀ id i = 16 - i
+add-lower : tie.Need-add-lower
+add-lower c = search needs
 
-loop-holds : tie.Need-loop-holds Inv-loop μ-loop
-loop-holds c = (search needs, refl, refl)
+lower-requires-2 : tie.Need-lower-requires-2
+lower-requires-2 c κs = search needs
 
-add-byte-at : tie.Need-add-byte-at Inv-loop μ-loop
-add-byte-at c = search needs
+sub-copy : tie.Need-sub-copy
+sub-copy c = search needs
 
-byte-at-requires : tie.Need-byte-at-requires Inv-loop μ-loop
-byte-at-requires c κs = search needs
+part-copy-start : tie.Need-part-copy-start
+part-copy-start c = search needs
 
-array-write-id : tie.Need-array-write-id Inv-loop μ-loop
-array-write-id c = search needs
+part-copy-end : tie.Need-part-copy-end
+part-copy-end c = search needs
 
-add-i : tie.Need-add-i Inv-loop μ-loop
-add-i c = search needs
+slice-aggregate-copy : tie.Need-slice-aggregate-copy
+slice-aggregate-copy c = search needs
 
-loop-less : tie.Need-loop-less Inv-loop μ-loop
-loop-less c = search needs
+copy-requires : tie.Need-copy-requires
+copy-requires c κs = search needs
 
-loop-again : tie.Need-loop-again Inv-loop μ-loop
-loop-again c =
-    let a = c .before .before .before .before .args in
-    let l = c .before .before .loop in
-    (search needs, search needs, byte-more (a .image .now) (l .id) (a .base) (l .i) (l .inv .1) (l .inv .2) (c .byte-at .result) (c .byte-at .ensures) (c .before .loop-test .taken))
-
-returns : tie.Need-returns Inv-loop μ-loop
+returns : tie.Need-returns
 returns c =
-    let a = c .before .before .before .args in
-    let l = c .before .loop in
-    all-bytes (a .image .now) (l .id) (a .base) (l .i) (l .inv .1) (l .inv .2) (omega arith)
+    let a = c .before .before .before .before .before .before .before .args in
+    laid (a .image .now) noId (c .before .copy .last .1 .0) (a .base) 16
+    (c .before .before .before .before .before .lower .result)
+    (c .before .before .before .before .lower2 .result)
+    (c .before .before .before .before .before .lower .ensures)
+    (c .before .before .before .before .lower2 .ensures)
+    (c .before .copy .ensures .1)
+    ∙ padded (drop (a .base) (a .image .now)) 16 0xFF
 
 pub sixteen-spec : {M : Type 1} → statement M
 sixteen-spec =
     tie.close
     (tie.spec
-    Inv-loop
-    μ-loop
-    loop-holds
-    add-byte-at
-    byte-at-requires
-    array-write-id
-    add-i
-    loop-less
-    loop-again
+    lower-requires
+    add-lower
+    lower-requires-2
+    sub-copy
+    part-copy-start
+    part-copy-end
+    slice-aggregate-copy
+    copy-requires
     returns)
