@@ -5,7 +5,7 @@ use mathlib.Core.Path.{_≡_, refl, sym, ap, subst, _∙_}
 use Prim.Native.Nat.{ℕ, _+_, _-_, _≤_, _<_}
 use native.Mathlib.Omega.{arith}
 use lib.ListN.{length, take, drop, getD, length-drop, length-append, take-append-drop}
-use lib.Seq.{take-all, paste, paste-zero, take-paste, length-paste}
+use lib.Seq.{take-all, length-take-le, paste, paste-zero, take-paste, length-paste}
 use Rattle.profile.specs.declared.Profile.{Profile}
 use Rattle.packet.proofs.Laws.{impossible}
 use Rattle.reply.specs.Reply.{front}
@@ -23,8 +23,8 @@ use Rattle.gathering.specs.Gather.{Holds, Taken, held}
 use Rattle.calls.specs.Calls.{isAccepted}
 use Rattle.device.specs.Post.{Ran, FedBy, Stood}
 use Rattle.calls.specs.Ready.{Ready}
-use Rattle.machine.proofs.Delivered.{later, atOnce, Reached, reached-start, reached-more, reached-quiet, reached-reply, reached-end}
-use Rattle.gathering.proofs.Adding.{taken-lack, taken-there, held-count, taken-count, taken-held, taken-room}
+use Rattle.machine.proofs.Delivered.{later, atOnce, Reached, reached-start, reached-more, reached-quiet, reached-reply, reached-end, consumed-most}
+use Rattle.gathering.proofs.Adding.{taken-there, held-count, taken-count, taken-held, taken-room}
 use Rattle.device.proofs.Added.{fed-more}
 use Rattle.waking.proofs.Woken.{front-nothing}
 use Rattle.calls.proofs.Rows.{is-accepted}
@@ -151,7 +151,7 @@ module _ {p : Profile} {im₀ rc₀ rp₀ bs : List ℕ} {st₀ : State} {im rc 
         machine-eq (holding (q ++ added) m .machine) (machineOf im next rc′) refl (sym held-now) (ap (λ (j : ℕ). held j st) (sym count-now)) in
         ap (λ (l : List ℕ). feedOf p m l) (sym (take-append-drop n (drop i bs)))
         ∙ ap (λ (x : Machine). feedOf p x (added ++ rest)) was
-        ∙ fed-more p m q added rest (t .ready .fit .held) (omega (arith, count, taken-lack st rc (drop i bs) turned-holds n (k .count)))
+        ∙ fed-more p m q added rest (taken-held st rc (drop i bs) turned-holds n (k .count))
         ∙ ap (λ (x : Machine). later (length added) (feedOf p x rest)) is
         ∙ ap (λ (j : ℕ). later j (feedOf p (machineOf im next rc′) rest)) count
 
@@ -173,6 +173,34 @@ module _ {p : Profile} {im₀ rc₀ rp₀ bs : List ℕ} {st₀ : State} {im rc 
           untouched = same;
           rest = reached-more p start bs i n m (machineOf im next rc′) (t .rest) fed;
         })
+
+  -- what the rest gives, given after the bytes before it
+  pub ran-rest : {f : Fed} {im′ rc′ rp′ : List ℕ} → i < length bs
+      → Ran (feedOf p m (take (length bs - i) (drop i bs))) (take (length bs - i) (drop i bs)) f im′ rc rc′ rp rp′
+      → Ran d bs (record { refusal = Accepted; state = f .state; consumed = i + f .consumed; count = f .count }) im′ rc₀ rc′ rp₀ rp′
+  ran-rest {f} {im′} {rc′} {rp′} h from-rest =
+      let whole : take (length bs - i) (drop i bs) ≡ drop i bs = take-all (length bs - i) (drop i bs) (omega (arith, length-drop i bs)) in
+      let k : Ran (feedOf p m (drop i bs)) (drop i bs) f im′ rc rc′ rp rp′ =
+      subst (λ (l : List ℕ). Ran (feedOf p m l) l f im′ rc rc′ rp rp′) whole from-rest in
+      subst (λ (x : Delivery). Ran x bs (record { refusal = Accepted; state = f .state; consumed = i + f .consumed; count = f .count }) im′ rc₀ rc′ rp₀ rp′)
+      (sym (t .rest))
+      (record {
+        refusal = refl;
+        state = k .state;
+        image = k .image;
+        held = k .held;
+        consumed = let c = k .consumed in omega arith;
+        count = k .count;
+        reply = k .reply ∙ ap (front (feedOf p m (drop i bs) .reply)) (t .reply);
+        idle = λ e. absurd (omega arith);
+      })
+
+  -- it consumes no more than there is
+  pub rest-fits : {f : Fed} {im′ rc′ rp′ : List ℕ} → Ran (feedOf p m (take (length bs - i) (drop i bs))) (take (length bs - i) (drop i bs)) f im′ rc rc′ rp rp′ → i + f .consumed ≤ length bs
+  rest-fits k =
+      let rest : List ℕ = take (length bs - i) (drop i bs) in
+      let there : length bs - i ≤ length (drop i bs) = omega (arith, length-drop i bs) in
+      omega (arith, k .consumed, consumed-most p m rest, length-take-le (length bs - i) (drop i bs) there, t .within)
 
   module _ {r : Stepped} {im′ rc′ rp′ : List ℕ} (h : i < length bs) (left : Stood s p r im′ rc′ rp rp′) where
     -- a byte without a reply
@@ -212,6 +240,15 @@ module _ {p : Profile} {im₀ rc₀ rp₀ bs : List ℕ} {st₀ : State} {im rc 
       where
         answered : (n : ℕ) → (n ≡ 0 → ⊥) → 0 < n
         answered n f = let g : n ≡ 0 → ⊥ = f in omega arith
+
+-- the bytes that a delivery begins with
+pub turned-first : {p : Profile} {im rc rp bs : List ℕ} {st : State} {g : Gathered} {rc′ : List ℕ} → Ready p (length im) st rc (length rp) → Taken st bs g rc rc′
+    → Turned p im rc rp bs st im rc′ rp (g .state) (g .taken)
+turned-first {p} {im} {rc} {rp} {bs} {st} {g} {rc′} r k =
+    let whole : take (length bs - 0) (drop 0 bs) ≡ bs = take-all (length bs - 0) (drop 0 bs) (omega arith) in
+    let n : 0 + g .taken ≡ g .taken = omega arith in
+    subst (λ (j : ℕ). Turned p im rc rp bs st im rc′ rp (g .state) j) n
+    (turned-more (turned-none p im rc rp bs st r) (subst (λ (l : List ℕ). Taken st l g rc rc′) (sym whole) k))
 
 -- the row that was found, by its test
 pub accepted-row : (row found : Refusal) (t : Bool) → found ≡ row → t ≡ isAccepted found → t ≡ true → row ≡ Accepted

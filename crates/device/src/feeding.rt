@@ -182,8 +182,8 @@ fn step(
     }
 }
 
-// An accepted delivery.
-pub(crate) fn run(
+// A delivery byte by byte: behind each byte those that only add to a packet at once.
+fn turns(
     profile: Profile,
     image: &mut [u8],
     state: State,
@@ -199,12 +199,6 @@ pub(crate) fn run(
     let mut i = 0;
     let mut count = 0;
     while i < input.len() {
-        let g = gather(now_state, receive, &input[i..]);
-        now_state = g.state;
-        i += g.taken;
-        if input.len() <= i {
-            break;
-        }
         let s = step(profile, image, now_state, receive, reply, input[i]);
         now_state = s.state;
         i += 1;
@@ -212,11 +206,48 @@ pub(crate) fn run(
         if count != 0 {
             break;
         }
+        let g = gather(now_state, receive, &input[i..]);
+        now_state = g.state;
+        i += g.taken;
     }
     Fed {
         refusal: Refusal::Accepted,
         state: now_state,
         consumed: i,
         count,
+    }
+}
+
+// An accepted delivery. Most only add to a packet, so those bytes come first.
+pub(crate) fn run(
+    profile: Profile,
+    image: &mut [u8],
+    state: State,
+    receive: &mut [u8],
+    reply: &mut [u8],
+    input: &[u8],
+) -> Fed
+    requires { ⌜ Ready profile (length (now image)) state (now receive) (length (now reply)) ⌝ }
+    ensures { λ r. ⌜ Ran (feedOf profile (machineOf (now (image .entry)) state (now (receive .entry))) (now (input .entry))) (now (input .entry)) r
+        (now (image .exit)) (now (receive .entry)) (now (receive .exit)) (now (reply .entry)) (now (reply .exit)) ⌝ }
+{
+    let g = gather(state, receive, input);
+    let first = g.state;
+    let taken = g.taken;
+    if input.len() <= taken {
+        return Fed {
+            refusal: Refusal::Accepted,
+            state: first,
+            consumed: taken,
+            count: 0,
+        };
+    }
+    let rest = turns(profile, image, first, receive, reply, &input[taken..]);
+    let last = rest.state;
+    Fed {
+        refusal: Refusal::Accepted,
+        state: last,
+        consumed: taken + rest.consumed,
+        count: rest.count,
     }
 }

@@ -1,20 +1,20 @@
 -- Bytes that come before the last of a packet only add to it: it stays incomplete. Assumes nothing.
 use mathlib.Core.Bool.{Bool, true, false}
 use mathlib.Core.List.{List, [], _∷_, _++_, append-nil, append-assoc}
-use mathlib.Core.Path.{_≡_, refl, sym, ap, _∙_}
+use mathlib.Core.Path.{_≡_, refl, sym, ap, subst, _∙_}
 use Prim.Native.Nat.{ℕ, _+_, _-_, _≤_, _<_, min}
-use native.Mathlib.Nat.{min-le-left, min-le-right}
+use native.Mathlib.Nat.{min-le-left, min-le-right, le-min}
 use native.Mathlib.Omega.{arith}
 use lib.Dec.{ltb}
-use lib.ListN.{length, take, drop, length-append, length-drop, List·getD-append}
-use lib.Seq.{paste, take-append-le, drop-append-le, drop-drop, length-take-le}
-use borrow.Author.Tests.{lt-ltb, le-ltb, ltb-true, ltb-false, eq-eqb, eqb-true}
+use lib.ListN.{length, take, drop, replicate, length-append, length-drop, length-replicate, List·getD-append}
+use lib.Seq.{paste, take-append-le, drop-append-le, drop-drop, take-add, length-take-le}
+use borrow.Author.Tests.{lt-ltb, le-ltb, ltb-true, ltb-false, eq-eqb, ne-eqb, eqb-true}
 use Rattle.numbers.specs.Bytes.{numberAt}
 use Rattle.numbers.specs.declared.Number.the-variants.{Is, CutShort}
 use Rattle.packet.specs.declared.Kind.{Kind}
 use Rattle.packet.specs.declared.Kind.the-variants.{Command as CommandPacket, Data as DataPacket}
 use Rattle.packet.specs.declared.Progress.the-variants.{Partial}
-use Rattle.packet.specs.Packet.{lengthOf, progressOf}
+use Rattle.packet.specs.Packet.{lengthOf, permitted, progressOf}
 use Rattle.packet.proofs.Laws.{length-cut, length-there, length-read}
 use Rattle.packet.proofs.Gathering.{Held, held, partial}
 use Rattle.state.specs.declared.Stage.{Stage}
@@ -22,7 +22,7 @@ use Rattle.state.specs.declared.Stage.the-variants.{Setting, Authentication, Co
 use Rattle.state.specs.declared.State.{State}
 use Rattle.state.specs.Fits.{isPartial, heldFits}
 use Rattle.state.proofs.FitParts.{is-partial, fit-few}
-use Rattle.gathering.specs.Gather.{lackOf, Holds}
+use Rattle.gathering.specs.Gather.{lackOf, openOf, gainOf, Holds}
 
 -- how many bytes are lacking before the last
 lack-short : (q : List ℕ) → length q < 3 → lackOf q ≡ 0
@@ -82,6 +82,17 @@ partial-more kind q (b ∷ bs) e h =
       count = λ n. omega (arith, s, l .count, length-append q (b ∷ bs));
     })
 
+-- and so was every beginning of it
+front-partial : (kind : Kind) (q bs : List ℕ) → progressOf kind (q ++ bs) ≡ Partial → progressOf kind q ≡ Partial
+front-partial kind q bs e =
+    let k : Held kind (q ++ bs) = held kind (q ++ bs) e in
+    let n : length (q ++ bs) ≡ length q + length bs = length-append q bs in
+    partial kind q (record {
+      start = λ some. sym (List·getD-append q bs 0 0 some) ∙ k .start (omega arith);
+      permits = λ long. subst (λ (l : ℕ). permitted kind l ≡ true) (same-says q bs long) (k .permits (omega arith));
+      count = λ long. let c = k .count (omega arith) in omega (arith, c, n, same-says q bs long);
+    })
+
 still-partial : (kind : Kind) (q bs : List ℕ) → isPartial (progressOf kind q) ≡ true → length bs ≤ lackOf q → isPartial (progressOf kind (q ++ bs)) ≡ true
 still-partial kind q bs e h = ap isPartial (partial-more kind q bs (is-partial (progressOf kind q) e) h)
 
@@ -98,6 +109,55 @@ still-held Command q bs e h = still-partial CommandPacket q bs e h
 still-held (Writing r) q bs e h = still-partial DataPacket q bs e h
 still-held (Reading r) q bs e h = still-partial DataPacket q bs e h
 
+-- what a stage can hold, it can hold the beginning of
+pub front-held : (stage : Stage) (q bs : List ℕ) → heldFits stage (q ++ bs) ≡ true → heldFits stage q ≡ true
+unfolding heldFits
+front-held (Setting u) q bs e = eq-eqb (length q) 0 (omega (arith, length-append q bs, eqb-true (length (q ++ bs)) 0 e))
+front-held Authentication q bs e = ap isPartial (front-partial CommandPacket q bs (is-partial (progressOf CommandPacket (q ++ bs)) e))
+front-held Command q bs e = ap isPartial (front-partial CommandPacket q bs (is-partial (progressOf CommandPacket (q ++ bs)) e))
+front-held (Writing r) q bs e = ap isPartial (front-partial DataPacket q bs (is-partial (progressOf DataPacket (q ++ bs)) e))
+front-held (Reading r) q bs e = ap isPartial (front-partial DataPacket q bs (is-partial (progressOf DataPacket (q ++ bs)) e))
+
+-- no packet lacks more than a longest one has
+pub lack-few : (stage : Stage) (q : List ℕ) → heldFits stage q ≡ true → length q + lackOf q < 1030
+lack-few stage q e =
+    let more : List ℕ = replicate (lackOf q) 0 in
+    let n : length more ≡ lackOf q = length-replicate (lackOf q) 0 in
+    omega (arith, length-append q more, n, fit-few stage (q ++ more) (still-held stage q more e (omega (arith, n))))
+
+-- three bytes that begin a packet, and as many as lack of it then
+opened-held : (stage : Stage) (bs : List ℕ) (n : ℕ) → heldFits stage (take 3 bs) ≡ true → 3 ≤ n → n ≤ lackOf (take 3 bs) + 3 → n ≤ length bs
+    → heldFits stage (take n bs) ≡ true
+opened-held stage bs n e low high there =
+    let k : 3 + (n - 3) ≡ n = omega arith in
+    let rest : List ℕ = take (n - 3) (drop 3 bs) in
+    let split : take n bs ≡ take 3 bs ++ rest = sym (ap (λ (j : ℕ). take j bs) k) ∙ take-add 3 (n - 3) bs in
+    let few : n - 3 ≤ length (drop 3 bs) = omega (arith, length-drop 3 bs) in
+    let count : length rest ≡ n - 3 = length-take-le (n - 3) (drop 3 bs) few in
+    ap (heldFits stage) split ∙ still-held stage (take 3 bs) rest e (omega (arith, count))
+
+-- how many can be gained, by the tests
+module _ (stage : Stage) (bs : List ℕ) where
+  pub open-few : length bs < 3 → 0 ≡ openOf stage bs
+  unfolding openOf
+  open-few h = simp (lt-ltb _ _ h)
+
+  pub open-none : 3 ≤ length bs → heldFits stage (take 3 bs) ≡ false → 0 ≡ openOf stage bs
+  unfolding openOf
+  open-none h e = simp (le-ltb _ _ h, e)
+
+  pub open-some : 3 ≤ length bs → heldFits stage (take 3 bs) ≡ true → lackOf (take 3 bs) + 3 ≡ openOf stage bs
+  unfolding openOf
+  open-some h e = simp (le-ltb _ _ h, e)
+
+  pub gain-first : (q : List ℕ) → length q ≡ 0 → openOf stage bs ≡ gainOf stage q bs
+  unfolding gainOf
+  gain-first q e = simp (eq-eqb _ _ e)
+
+  pub gain-more : (q : List ℕ) → (length q ≡ 0 → ⊥) → lackOf q ≡ gainOf stage q bs
+  unfolding gainOf
+  gain-more q e = simp (ne-eqb _ _ e)
+
 -- the first n bytes of bs, to rc from a place on
 module _ (rc bs : List ℕ) (at n : ℕ) (room : at + n ≤ length rc) (there : n ≤ length bs) where
   pub part-count : length (take (at + n - at) (drop at rc)) ≡ length (take n bs)
@@ -111,16 +171,48 @@ module _ (rc bs : List ℕ) (at n : ℕ) (room : at + n ≤ length rc) (there : 
       let k : at + n - at ≡ n = omega arith in
       rw (f, k, drop-drop) (sym (append-assoc (take at rc) (take n bs) (drop (at + n) rc)))
 
+-- what is gained is held
+module _ (stage : Stage) (bs : List ℕ) (n : ℕ) where
+  none-held : (q : List ℕ) → n ≡ 0 → heldFits stage q ≡ true → heldFits stage (q ++ take n bs) ≡ true
+  none-held q z e = rw z (ap (heldFits stage) (append-nil q) ∙ e)
+
+  first-held : n ≡ min (openOf stage bs) (length bs) → heldFits stage [] ≡ true → heldFits stage (take n bs) ≡ true
+  first-held e f = go (ltb (length bs) 3) refl
+    where
+      below : n ≤ openOf stage bs
+      below = let h : min (openOf stage bs) (length bs) ≤ openOf stage bs = min-le-left _ _ in omega arith
+
+      there : n ≤ length bs
+      there = let h : min (openOf stage bs) (length bs) ≤ length bs = min-le-right _ _ in omega arith
+
+      begun : 3 ≤ length bs → (t : Bool) → heldFits stage (take 3 bs) ≡ t → heldFits stage (take n bs) ≡ true
+      begun long false g = none-held [] (omega (arith, below, open-none stage bs long g)) f
+      begun long true g =
+          let o : lackOf (take 3 bs) + 3 ≡ openOf stage bs = open-some stage bs long g in
+          let low : 3 ≤ min (openOf stage bs) (length bs) = le-min (omega (arith, o)) long in
+          opened-held stage bs n g (omega arith) (omega (arith, o, below)) there
+
+      go : (t : Bool) → ltb (length bs) 3 ≡ t → heldFits stage (take n bs) ≡ true
+      go true g = none-held [] (omega (arith, below, open-few stage bs (ltb-true (length bs) 3 g))) f
+      go false g = begun (ltb-false (length bs) 3 g) (heldFits stage (take 3 bs)) refl
+
+  gained-held : (q : List ℕ) → n ≡ min (gainOf stage q bs) (length bs) → heldFits stage q ≡ true → heldFits stage (q ++ take n bs) ≡ true
+  gained-held [] e f = first-held (e ∙ ap (λ (k : ℕ). min k (length bs)) (sym (gain-first stage bs [] refl))) f
+  gained-held (x ∷ q) e f =
+      let some : length (x ∷ q) ≡ 0 → ⊥ = λ z. omega arith in
+      let g : lackOf (x ∷ q) ≡ gainOf stage (x ∷ q) bs = gain-more stage bs (x ∷ q) some in
+      let low : min (gainOf stage (x ∷ q) bs) (length bs) ≤ gainOf stage (x ∷ q) bs = min-le-left _ _ in
+      let high : min (gainOf stage (x ∷ q) bs) (length bs) ≤ length bs = min-le-right _ _ in
+      let count : length (take n bs) ≡ n = length-take-le n bs (omega arith) in
+      still-held stage (x ∷ q) (take n bs) f (omega (arith, count, g, low))
+
 -- n bytes of bs are taken
-module _ (st : State) (rc bs : List ℕ) (holds : Holds st rc) (n : ℕ) (e : n ≡ min (lackOf (take (st .held) rc)) (length bs)) where
+module _ (st : State) (rc bs : List ℕ) (holds : Holds st rc) (n : ℕ) (e : n ≡ min (gainOf (st .stage) (take (st .held) rc) bs) (length bs)) where
   abbrev q : List ℕ
   q = take (st .held) rc
 
-  pub taken-lack : n ≤ lackOf q
-  taken-lack = let h : min (lackOf q) (length bs) ≤ lackOf q = min-le-left _ _ in omega arith
-
   pub taken-there : n ≤ length bs
-  taken-there = let h : min (lackOf q) (length bs) ≤ length bs = min-le-right _ _ in omega arith
+  taken-there = let h : min (gainOf (st .stage) q bs) (length bs) ≤ length bs = min-le-right _ _ in omega arith
 
   pub held-count : length q ≡ st .held
   held-count = length-take-le (st .held) rc (holds .inside)
@@ -129,7 +221,7 @@ module _ (st : State) (rc bs : List ℕ) (holds : Holds st rc) (n : ℕ) (e : n 
   taken-count = length-take-le n bs taken-there
 
   pub taken-held : heldFits (st .stage) (q ++ take n bs) ≡ true
-  taken-held = still-held (st .stage) q (take n bs) (holds .fits) (omega (arith, taken-count, taken-lack))
+  taken-held = gained-held (st .stage) bs n q e (holds .fits)
 
   -- a buffer for a longest packet has room for them
   pub taken-room : st .held + n ≤ length rc

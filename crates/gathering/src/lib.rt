@@ -3,8 +3,9 @@ ghost use mathlib.Core.Path.{_≡_};
 ghost use Prim.Native.Nat.{_+_, _≤_, min};
 ghost use lib.ListN.{length};
 ghost use lib.Seq.{paste};
-ghost use Rattle.gathering.specs.Gather.{held, lackOf, Holds, Taken};
+ghost use Rattle.gathering.specs.Gather.{held, lackOf, openOf, gainOf, Holds, Taken};
 use numbers::Number;
+use state::Stage;
 use state::State;
 
 // What taking bytes that only add to a packet leads to, and how many they are.
@@ -73,13 +74,37 @@ fn lacking(packet: &[u8]) -> usize
     }
 }
 
+// How many bytes of input can come before the last of the packet that they begin; none where they begin none.
+fn opening(stage: Stage, input: &[u8]) -> usize
+    ensures { λ r. ⌜ r ≡ openOf stage (now (input .entry)) ⌝ }
+{
+    if input.len() < 3 {
+        return 0;
+    }
+    if !state::held_fits(stage, &input[..3]) {
+        return 0;
+    }
+    lacking(&input[..3]) + 3
+}
+
+// The same behind the bytes that are held.
+fn gain(stage: Stage, held: &[u8], input: &[u8]) -> usize
+    ensures { λ r. ⌜ r ≡ gainOf stage (now (held .entry)) (now (input .entry)) ⌝ }
+{
+    if held.len() == 0 {
+        return opening(stage, input);
+    }
+    lacking(held)
+}
+
 // As many bytes of input as can come before the packet's last, behind those that are held. In setting none are held.
 pub fn gather(state: State, receive: &mut [u8], input: &[u8]) -> Gathered
     requires { ⌜ Holds state (now receive) ⌝ }
     ensures { λ r. ⌜ Taken state (now (input .entry)) r (now (receive .entry)) (now (receive .exit)) ⌝ }
 {
     let at = state.held;
-    let taken = lower(lacking(&receive[..at]), input.len());
+    let stage = state.stage;
+    let taken = lower(gain(stage, &receive[..at], input), input.len());
     place(receive, at, input, taken);
     Gathered {
         state: holding(state, at + taken),

@@ -1,29 +1,30 @@
--- `gathering::gather` meets its contract. The packet that is held leaves room for the bytes before its last. Assumes nothing.
-use Rattle.gathering.proofs.Adding.{taken-there, taken-room}
-use lib.Seq.{length-take-le}
-use lib.ListN.{length}
-use native.Mathlib.Omega.{arith}
-use Prim.Native.Nat.{ℕ, min}
+-- `gathering::gather` meets its contract. What is held then fits, so the buffer has room for it. Assumes nothing.
 use mathlib.Core.Path.{ap, sym, _∙_}
+use Prim.Native.Nat.{ℕ, min}
+use native.Mathlib.Omega.{arith}
+use lib.ListN.{length}
+use lib.Seq.{length-take-le}
+use Rattle.gathering.proofs.Adding.{taken-there, taken-room}
 use borrow.Author.Needs.{needs}
 use Rattle.gathering.proofs.gather.Statement.{statement}
 use Rattle.gathering.proofs.gather.Tie as tie
+use Rattle.gathering.proofs.gather.Reads as reads
 
-slice-reshare-prefix-lacking : tie.Need-slice-reshare-prefix-lacking
-slice-reshare-prefix-lacking c = search needs
+slice-reshare-prefix-gain : tie.Need-slice-reshare-prefix-gain
+slice-reshare-prefix-gain c = search needs
 
-slice-aggregate-lacking : tie.Need-slice-aggregate-lacking
-slice-aggregate-lacking c = let a = c .before .before .before .args in sym (length-take-le (a .state .held) (a .receive .now) (c .before .before .before .pre .inside))
+slice-aggregate-gain : tie.Need-slice-aggregate-gain
+slice-aggregate-gain c = sym (length-take-le (c .before .before .before .args .state .held) (c .before .before .before .args .receive .now) (c .before .before .before .pre .inside))
 
-lacking-requires : tie.Need-lacking-requires
-lacking-requires c κs = search needs
+gain-requires : tie.Need-gain-requires
+gain-requires c κs = search needs
 
 lower-requires : tie.Need-lower-requires
 lower-requires c κs = search needs
 
 place-requires : tie.Need-place-requires
 place-requires c κs = let a = c .before .before .before .before .before .before .args in
-    let e = c .before .lower .ensures ∙ ap (λ (k : ℕ). min k (length (a .input .now))) (c .before .before .lacking .ensures) in
+    let e = c .before .lower .ensures ∙ ap (λ (k : ℕ). min k (length (a .input .now))) (c .before .before .gain .ensures) in
     (omega (arith, taken-room (a .state) (a .receive .now) (a .input .now) (c .before .before .before .before .before .before .pre) (c .before .lower .result) e), taken-there (a .state) (a .receive .now) (a .input .now) (c .before .before .before .before .before .before .pre) (c .before .lower .result) e)
 
 add-holding : tie.Need-add-holding
@@ -42,9 +43,9 @@ pub gather-spec : {M : Type 1} → statement M
 gather-spec =
     tie.close
     (tie.spec
-    slice-reshare-prefix-lacking
-    slice-aggregate-lacking
-    lacking-requires
+    slice-reshare-prefix-gain
+    slice-aggregate-gain
+    gain-requires
     lower-requires
     place-requires
     add-holding

@@ -1,115 +1,60 @@
--- `device::feeding::run` meets its contract. The loop keeps that the whole delivery gives what its rest gives, later by the bytes done, and that no reply came. Assumes nothing.
-use mathlib.Core.Path.{_≡_, refl, ap, _∙_}
-use Prim.Native.Nat.{_-_}
+-- `device::feeding::run` meets its contract: the bytes that come first, and what the rest gives after them. Assumes nothing.
+use Rattle.device.proofs.Turns.{turned-first, ran-end, ran-rest, rest-fits}
 use native.Mathlib.Omega.{arith}
-use lib.ListN.{length}
+use mathlib.Core.Path.{refl}
 use borrow.Author.Needs.{needs}
-use Rattle.device.proofs.Turns.{Turned, turned-none, turned-holds, turned-more, turned-on, ran-reply, ran-end}
 use Rattle.device.proofs.feeding.run.Statement.{statement}
 use Rattle.device.proofs.feeding.run.Tie as tie
 
-abbrev Inv-loop : tie.InvT-loop
-Inv-loop profile image₀ receive₀ reply₀ input now-state₀ i₀ count₀ image receive reply now-state i count = Turned profile image₀ receive₀ reply₀ input now-state₀ image receive reply now-state i × (count ≡ 0)
+gather-requires : tie.Need-gather-requires
+gather-requires c κs = search needs
 
-abbrev μ-loop : tie.MeasureT-loop
-μ-loop profile image₀ receive₀ reply₀ input now-state₀ i₀ count₀ image receive reply now-state i count = length input - i
+same-length : tie.Need-same-length
+same-length c = search needs
 
-loop-holds : tie.Need-loop-holds Inv-loop μ-loop
-loop-holds c = let a = c .before .before .before .before .args in (turned-none (a .profile) (a .image .now) (a .receive .now) (a .reply .now) (a .input .now) (a .state) (c .before .before .before .before .pre), refl)
+returns : tie.Need-returns
+returns c = ran-end (turned-first (c .before .before .before .before .before .before .before .before .before .before .pre) (c .before .before .before .before .gather .ensures)) refl (c .if1 .taken)
 
-sub-gather : tie.Need-sub-gather Inv-loop μ-loop
-sub-gather c = search needs
+sub-turns : tie.Need-sub-turns
+sub-turns c = search needs
 
-part-gather-start : tie.Need-part-gather-start Inv-loop μ-loop
-part-gather-start c = search needs
+part-turns-start : tie.Need-part-turns-start
+part-turns-start c = search needs
 
-part-gather-end : tie.Need-part-gather-end Inv-loop μ-loop
-part-gather-end c = search needs
+part-turns-end : tie.Need-part-turns-end
+part-turns-end c = search needs
 
-gather-requires : tie.Need-gather-requires Inv-loop μ-loop
-gather-requires c κs = turned-holds (c .before .before .before .loop .inv .0)
+turns-requires : tie.Need-turns-requires
+turns-requires c κs = (turned-first {im = c .before .before .before .before .before .before .before .before .before .before .before .before .before .before .args .image .now} {rp = c .before .before .before .before .before .before .before .before .before .before .before .before .before .before .args .reply .now} (c .before .before .before .before .before .before .before .before .before .before .before .before .before .before .pre) (c .before .before .before .before .before .before .before .before .gather .ensures)) .ready
 
-add-i : tie.Need-add-i Inv-loop μ-loop
-add-i c = let t = turned-more (c .before .before .before .before .before .before .before .before .loop .inv .0) (c .before .before .before .before .gather .ensures) in omega (arith, t .within, c .before .before .before .before .before .before .before .before .before .before .before .before .before .good .1 .1 .1 .1 .1)
+add-t14 : tie.Need-add-t14
+add-t14 c = omega (arith, rest-fits (turned-first (c .before .before .before .before .before .before .before .before .before .before .before .before .before .before .before .before .before .before .before .before .before .before .before .pre) (c .before .before .before .before .before .before .before .before .before .before .before .before .before .before .before .before .before .gather .ensures)) (c .before .before .before .before .before .before .before .before .turns .ensures), c .before .before .before .before .before .before .before .before .before .before .before .before .before .before .before .before .before .before .before .before .before .before .before .good .1 .1 .1 .1 .1)
 
-shared-slice-read-step : tie.Need-shared-slice-read-step Inv-loop μ-loop
-shared-slice-read-step c = search needs
+same-length-2 : tie.Need-same-length-2
+same-length-2 c = search needs
 
-step-requires : tie.Need-step-requires Inv-loop μ-loop
-step-requires c κs = turned-more (c .before .before .before .before .before .before .before .before .before .before .before .before .before .loop .inv .0) (c .before .before .before .before .before .before .before .before .before .gather .ensures) .ready
+same-length-3 : tie.Need-same-length-3
+same-length-3 c = search needs
 
-add-i-2 : tie.Need-add-i-2 Inv-loop μ-loop
-add-i-2 c = omega (arith, c .before .before .before .before .before .before .before .before .before .before .before .before .if1 .left, c .before .before .before .before .before .before .before .before .before .before .before .before .before .before .before .before .before .before .before .before .before .before .before .before .before .before .good .1 .1 .1 .1 .1)
+same-length-4 : tie.Need-same-length-4
+same-length-4 c = search needs
 
-loop-less : tie.Need-loop-less Inv-loop μ-loop
-loop-less c = omega (arith, c .before .before .before .before .before .before .before .before .before .before .before .before .before .if1 .left)
-
-loop-again : tie.Need-loop-again Inv-loop μ-loop
-loop-again c = let t = turned-more (c .before .before .before .before .before .before .before .before .before .before .before .before .before .before .before .before .before .before .before .before .before .before .loop .inv .0) (c .before .before .before .before .before .before .before .before .before .before .before .before .before .before .before .before .before .before .gather .ensures) in
-    (turned-on t (c .before .before .before .before .before .before .before .before .before .before .before .before .before .if1 .left) (c .before .before .before .before .before .before .before .before .step .ensures) (c .if2 .left) (c .before .before .before .before .before .before .before .before .step .kept .1 .0) (c .before .before .before .before .before .before .before .before .step .kept .1 .1 .1 .0) (c .before .before .before .before .before .before .before .before .step .kept .1 .1 .1 .1 .0), c .if2 .left)
-
-same-length : tie.Need-same-length Inv-loop μ-loop
-same-length c = c .before .loop .inv .0 .image
-
-same-length-2 : tie.Need-same-length-2 Inv-loop μ-loop
-same-length-2 c = c .before .loop .inv .0 .receive
-
-same-length-3 : tie.Need-same-length-3 Inv-loop μ-loop
-same-length-3 c = ap length (c .before .loop .inv .0 .reply)
-
-returns : tie.Need-returns Inv-loop μ-loop
-returns c = ran-end (c .before .loop .inv .0) (c .before .loop .inv .1) (c .loop-test .left)
-
-same-length-4 : tie.Need-same-length-4 Inv-loop μ-loop
-same-length-4 c = c .before .before .before .before .before .before .before .before .before .loop .inv .0 .image
-
-same-length-5 : tie.Need-same-length-5 Inv-loop μ-loop
-same-length-5 c = turned-more (c .before .before .before .before .before .before .before .before .before .loop .inv .0) (c .before .before .before .before .before .gather .ensures) .receive
-
-same-length-6 : tie.Need-same-length-6 Inv-loop μ-loop
-same-length-6 c = ap length (c .before .before .before .before .before .before .before .before .before .loop .inv .0 .reply)
-
-returns-2 : tie.Need-returns-2 Inv-loop μ-loop
-returns-2 c = ran-end (turned-more (c .before .before .before .before .before .before .before .before .before .loop .inv .0) (c .before .before .before .before .before .gather .ensures)) (c .before .before .before .before .before .before .before .before .before .loop .inv .1) (c .if1 .taken)
-
-same-length-7 : tie.Need-same-length-7 Inv-loop μ-loop
-same-length-7 c = c .before .before .before .before .before .before .before .before .step .kept .1 .0 ∙ c .before .before .before .before .before .before .before .before .before .before .before .before .before .before .before .before .before .before .before .before .before .before .loop .inv .0 .image
-
-same-length-8 : tie.Need-same-length-8 Inv-loop μ-loop
-same-length-8 c = c .before .before .before .before .before .before .before .before .step .kept .1 .1 .1 .0 ∙ turned-more (c .before .before .before .before .before .before .before .before .before .before .before .before .before .before .before .before .before .before .before .before .before .before .loop .inv .0) (c .before .before .before .before .before .before .before .before .before .before .before .before .before .before .before .before .before .before .gather .ensures) .receive
-
-same-length-9 : tie.Need-same-length-9 Inv-loop μ-loop
-same-length-9 c = c .before .before .before .before .before .before .before .before .step .kept .1 .1 .1 .1 .0 ∙ ap length (c .before .before .before .before .before .before .before .before .before .before .before .before .before .before .before .before .before .before .before .before .before .before .loop .inv .0 .reply)
-
-returns-3 : tie.Need-returns-3 Inv-loop μ-loop
-returns-3 c = ran-reply (turned-more (c .before .before .before .before .before .before .before .before .before .before .before .before .before .before .before .before .before .before .before .before .before .before .loop .inv .0) (c .before .before .before .before .before .before .before .before .before .before .before .before .before .before .before .before .before .before .gather .ensures)) (c .before .before .before .before .before .before .before .before .before .before .before .before .before .if1 .left) (c .before .before .before .before .before .before .before .before .step .ensures) (c .if2 .taken)
+returns-2 : tie.Need-returns-2
+returns-2 c = ran-rest (turned-first (c .before .before .before .before .before .before .before .before .before .before .before .before .before .before .before .before .before .before .before .before .before .before .before .pre) (c .before .before .before .before .before .before .before .before .before .before .before .before .before .before .before .before .before .gather .ensures)) (c .before .before .before .before .before .before .before .before .before .before .before .before .before .if1 .left) (c .before .before .before .before .before .before .before .before .turns .ensures)
 
 pub run-spec : {M : Type 1} → statement M
 run-spec =
     tie.close
     (tie.spec
-    Inv-loop
-    μ-loop
-    loop-holds
-    sub-gather
-    part-gather-start
-    part-gather-end
     gather-requires
-    add-i
-    shared-slice-read-step
-    step-requires
-    add-i-2
-    loop-less
-    loop-again
     same-length
+    returns
+    sub-turns
+    part-turns-start
+    part-turns-end
+    turns-requires
+    add-t14
     same-length-2
     same-length-3
-    returns
     same-length-4
-    same-length-5
-    same-length-6
-    returns-2
-    same-length-7
-    same-length-8
-    same-length-9
-    returns-3)
+    returns-2)
