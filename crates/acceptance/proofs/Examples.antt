@@ -11,7 +11,7 @@ use Rattle.profile.specs.Bench.{bench, benchUser, benchConfig, onBench, user000
 use Rattle.acceptance.specs.declared.Acceptance.{Acceptance}
 use Rattle.acceptance.specs.declared.Acceptance.the-variants.{Acceptable, Breaks}
 use Rattle.acceptance.specs.declared.Rule.the-variants.{AreaCount, NotAbove, ConfigCount}
-use Rattle.acceptance.specs.Rules.{acceptanceOf, profileChecks, headChecks, areaChecks, tableChecks, tailChecks, unitFits, config, smallConfig}
+use Rattle.acceptance.specs.Rules.{acceptanceOf, profileChecks, headChecks, areaChecks, tableChecks, tailChecks, countedChecks, unitFits, config, smallConfig}
 
 pub record Example : Type 0 where
   pub profile : Profile
@@ -29,5 +29,5 @@ examples =
     ∷ []
 
 pub examples-hold : map (λ (e : Example). acceptanceOf (firstFault (profileChecks (e .profile)))) examples ≡ map (λ (e : Example). e .answer) examples
-unfolding firstFault profileChecks headChecks areaChecks tableChecks tailChecks unitFits config smallConfig entries tally
+unfolding firstFault profileChecks headChecks areaChecks tableChecks tailChecks countedChecks unitFits config smallConfig entries tally
 examples-hold = refl

@@ -23,27 +23,27 @@ pub breaks-some : (f : Option Rule) (rule : Rule) → acceptanceOf f ≡ Breaks 
 breaks-some none rule e = let z : _≡_ {A = ℕ} 0 1 = cc in absurd (omega arith)
 breaks-some (some other) rule e = let same : other ≡ rule = cc in ap some same
 
--- what comes after an acceptable list decides; a rule that the first list finds broken stays the answer
+-- what comes after an acceptable list decides; a rule that the first list finds broken stays the first
 module _ (xs ys : List (Check Rule)) where
-  pub goes-on : acceptanceOf (firstFault xs) ≡ Acceptable → acceptanceOf (firstFault (xs ++ ys)) ≡ acceptanceOf (firstFault ys)
-  goes-on e = ap acceptanceOf (fault-right xs ys (acceptable-none (firstFault xs) e))
+  pub goes-on : acceptanceOf (firstFault xs) ≡ Acceptable → firstFault (xs ++ ys) ≡ firstFault ys
+  goes-on e = fault-right xs ys (acceptable-none (firstFault xs) e)
 
-  pub stops : (rule : Rule) → acceptanceOf (firstFault xs) ≡ Breaks rule → acceptanceOf (firstFault (xs ++ ys)) ≡ Breaks rule
-  stops rule e = ap acceptanceOf (fault-left xs ys rule (breaks-some (firstFault xs) rule e))
+  pub stops : (rule : Rule) → acceptanceOf (firstFault xs) ≡ Breaks rule → firstFault (xs ++ ys) ≡ some rule
+  stops rule e = fault-left xs ys rule (breaks-some (firstFault xs) rule e)
 
 -- the checks of what is left of n entries at entry i
 module _ (table : List Area) (i n free : ℕ) where
   pub table-next : i < n → acceptanceOf (firstFault (areaChecks i free (getD table i noArea))) ≡ Acceptable
-      → acceptanceOf (firstFault (tableChecks i free (entries i (n - i) table)))
-      ≡ acceptanceOf (firstFault (tableChecks (i + 1) (getD table i noArea .ead + 1) (entries (i + 1) (n - (i + 1)) table)))
+      → firstFault (tableChecks i free (entries i (n - i) table))
+      ≡ firstFault (tableChecks (i + 1) (getD table i noArea .ead + 1) (entries (i + 1) (n - (i + 1)) table))
   unfolding tableChecks
   table-next h e = rw (entries-next table i n h) (goes-on (areaChecks i free (getD table i noArea)) _ e)
 
   pub table-stops : (rule : Rule) → i < n → acceptanceOf (firstFault (areaChecks i free (getD table i noArea))) ≡ Breaks rule
-      → acceptanceOf (firstFault (tableChecks i free (entries i (n - i) table))) ≡ Breaks rule
+      → firstFault (tableChecks i free (entries i (n - i) table)) ≡ some rule
   unfolding tableChecks
   table-stops rule h e = rw (entries-next table i n h) (stops (areaChecks i free (getD table i noArea)) _ rule e)
 
-  pub table-end : n ≤ i → acceptanceOf (firstFault (tableChecks i free (entries i (n - i) table))) ≡ Acceptable
+  pub table-end : n ≤ i → firstFault (tableChecks i free (entries i (n - i) table)) ≡ none
   unfolding tableChecks firstFault
   table-end h = rw (entries-end table i n h) refl

@@ -1,3 +1,3 @@
 pub mod Rules
 pub mod Sound
-pub mod Tallies
+pub mod Judged

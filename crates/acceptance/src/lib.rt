@@ -3,11 +3,12 @@ ghost use mathlib.Core.Path.{_≡_};
 ghost use mathlib.Core.List.{_++_};
 ghost use Prim.Native.Nat.{_≤_, _<_, _+_};
 ghost use Rattle.verdict.specs.Check.{firstFault};
-ghost use Rattle.profile.specs.Areas.{areasOf};
-ghost use Rattle.acceptance.specs.Rules.{unitFits, acceptanceOf, headChecks, areaChecks, tableChecks, config, smallConfig, tailChecks, profileChecks};
-ghost use Rattle.acceptance.specs.Tallies.{Tallied};
+ghost use Rattle.profile.specs.Areas.{areasOf, totalOf};
+ghost use Rattle.acceptance.specs.Rules.{unitFits, acceptanceOf, headChecks, areaChecks, tableChecks, config, smallConfig, countedChecks, tailChecks};
+ghost use Rattle.acceptance.specs.Judged.{uncountedBy, surveyOf, judgedAs, judgedOf};
 use profile::Area;
 use profile::Profile;
+use profile::Window;
 
 // One rule for each condition of document 01; those of an area carry its number in the table.
 pub enum Rule {
@@ -42,11 +43,23 @@ pub enum Acceptance {
     Breaks(Rule),
 }
 
+// Whether a profile is acceptable, and the length of the image that it asks for: 0 where it is not.
+pub struct Judged {
+    pub found: Acceptance,
+    pub total: usize,
+}
+
 // The config areas, those of them that are too small, and the image's length.
 struct Tallies {
     configs: usize,
     small: usize,
     total: usize,
+}
+
+// What a walk over the areas finds and counts: nothing is counted where it finds a rule broken.
+struct Surveyed {
+    found: Acceptance,
+    tallies: Tallies,
 }
 
 // Whether the unit is 0, or divides the area's start and size.
@@ -109,26 +122,6 @@ fn check_area(area: Area, i: usize, free: u64) -> Acceptance
     Acceptance::Acceptable
 }
 
-fn check_table(profile: Profile) -> Acceptance
-    ensures { λ r. ⌜ r ≡ acceptanceOf (firstFault (tableChecks 0 0 (areasOf profile))) ⌝ }
-{
-    let end = profile::used(profile.noa);
-    let mut free: u64 = 0;
-    let mut i = 0;
-    while i < end {
-        let area = profile.areas[i];
-        let found = check_area(area, i, free);
-        match found {
-            Acceptance::Breaks(rule) => return Acceptance::Breaks(rule),
-            Acceptance::Acceptable => {
-                free = area.ead as u64 + 1;
-                i += 1;
-            }
-        }
-    }
-    Acceptance::Acceptable
-}
-
 // 1 for a config area, 0 for another.
 fn one_if_config(area: Area) -> usize
     ensures { λ r. ⌜ (r ≡ config area) × (r ≤ 1) ⌝ }
@@ -148,33 +141,57 @@ fn one_if_small(area: Area) -> usize
     0
 }
 
-// One walk over the areas in use for all that their table is counted for.
-fn tally_areas(profile: Profile) -> Tallies
-    ensures { λ r. ⌜ Tallied (areasOf profile) r ⌝ }
+// A table that breaks a rule is counted for nothing.
+fn uncounted(rule: Rule) -> Surveyed
+    ensures { λ r. ⌜ r ≡ uncountedBy rule ⌝ }
 {
-    let n = profile::used(profile.noa);
+    Surveyed {
+        found: Acceptance::Breaks(rule),
+        tallies: Tallies {
+            configs: 0,
+            small: 0,
+            total: 0,
+        },
+    }
+}
+
+// One walk over the areas in use for all that their table is checked and counted for.
+fn survey(profile: Profile) -> Surveyed
+    ensures { λ r. ⌜ r ≡ surveyOf (areasOf profile) ⌝ }
+{
+    let end = profile::used(profile.noa);
+    let mut free: u64 = 0;
     let mut configs: usize = 0;
     let mut small: usize = 0;
     let mut total: usize = 0;
     let mut i = 0;
-    while i < n {
+    while i < end {
         let area = profile.areas[i];
-        configs += one_if_config(area);
-        small += one_if_small(area);
-        total += profile::size(area);
-        i += 1;
+        let found = check_area(area, i, free);
+        match found {
+            Acceptance::Breaks(rule) => return uncounted(rule),
+            Acceptance::Acceptable => {
+                free = area.ead as u64 + 1;
+                configs += one_if_config(area);
+                small += one_if_small(area);
+                total += profile::size(area);
+                i += 1;
+            }
+        }
     }
-    Tallies {
-        configs,
-        small,
-        total,
+    Surveyed {
+        found: Acceptance::Acceptable,
+        tallies: Tallies {
+            configs,
+            small,
+            total,
+        },
     }
 }
 
-fn check_tail(profile: Profile) -> Acceptance
-    ensures { λ r. ⌜ r ≡ acceptanceOf (firstFault (tailChecks profile)) ⌝ }
+fn check_tail(window: Window, counted: Tallies) -> Acceptance
+    ensures { λ r. ⌜ r ≡ acceptanceOf (firstFault (countedChecks window counted)) ⌝ }
 {
-    let counted = tally_areas(profile);
     if counted.configs != 1 {
         return Acceptance::Breaks(Rule::ConfigCount);
     }
@@ -184,29 +201,49 @@ fn check_tail(profile: Profile) -> Acceptance
     if 16777216 < counted.total {
         return Acceptance::Breaks(Rule::TooLarge);
     }
-    if profile.window.high < profile.window.low {
+    if window.high < window.low {
         return Acceptance::Breaks(Rule::WindowReversed);
     }
     Acceptance::Acceptable
 }
 
-fn check_rest(profile: Profile) -> Acceptance
-    ensures { λ r. ⌜ r ≡ acceptanceOf (firstFault (tableChecks 0 0 (areasOf profile) ++ tailChecks profile)) ⌝ }
+fn check_rest(profile: Profile) -> Judged
+    ensures { λ r. ⌜ r ≡ judgedAs (firstFault (tableChecks 0 0 (areasOf profile) ++ tailChecks profile)) (totalOf (areasOf profile)) ⌝ }
 {
-    let table = check_table(profile);
-    match table {
-        Acceptance::Breaks(rule) => Acceptance::Breaks(rule),
-        Acceptance::Acceptable => check_tail(profile),
+    let table = survey(profile);
+    let found = table.found;
+    let counted = table.tallies;
+    match found {
+        Acceptance::Breaks(rule) => Judged {
+            found: Acceptance::Breaks(rule),
+            total: 0,
+        },
+        Acceptance::Acceptable => {
+            let tail = check_tail(profile.window, counted);
+            match tail {
+                Acceptance::Breaks(late) => Judged {
+                    found: Acceptance::Breaks(late),
+                    total: 0,
+                },
+                Acceptance::Acceptable => Judged {
+                    found: Acceptance::Acceptable,
+                    total: counted.total,
+                },
+            }
+        }
     }
 }
 
-// Whether a profile is acceptable, and the first rule that it breaks where it is not.
-pub fn judge(profile: Profile) -> Acceptance
-    ensures { λ r. ⌜ r ≡ acceptanceOf (firstFault (profileChecks profile)) ⌝ }
+// Whether a profile is acceptable, with the first rule that it breaks where it is not, and the image's length.
+pub fn judge(profile: Profile) -> Judged
+    ensures { λ r. ⌜ r ≡ judgedOf profile ⌝ }
 {
     let head = check_head(profile);
     match head {
-        Acceptance::Breaks(rule) => Acceptance::Breaks(rule),
+        Acceptance::Breaks(rule) => Judged {
+            found: Acceptance::Breaks(rule),
+            total: 0,
+        },
         Acceptance::Acceptable => check_rest(profile),
     }
 }

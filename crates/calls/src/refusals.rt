@@ -39,11 +39,12 @@ pub fn is_accepted(refusal: Refusal) -> bool
 pub fn unstarted(profile: Profile, length: usize) -> Refusal
     ensures { λ r. ⌜ r ≡ refusalOf (firstFault (startRows profile length)) ⌝ }
 {
-    let found = acceptance::judge(profile);
+    let judged = acceptance::judge(profile);
+    let found = judged.found;
     match found {
         Acceptance::Breaks(_) => Refusal::Unacceptable,
         Acceptance::Acceptable => {
-            if length != profile::total(profile) {
+            if length != judged.total {
                 return Refusal::WrongImage;
             }
             Refusal::Accepted

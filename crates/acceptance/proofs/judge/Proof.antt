@@ -1,9 +1,13 @@
 -- `acceptance::judge` meets its contract. The head decides where it breaks a rule, and else the rest. Assumes nothing.
-use mathlib.Core.Path.{sym, _∙_}
 use mathlib.Core.List.{_++_}
+use mathlib.Core.Option.{Option}
+use mathlib.Core.Path.{sym, ap, _∙_}
 use borrow.Author.Needs.{needs}
-use Rattle.profile.specs.Areas.{areasOf}
+use Rattle.profile.specs.Areas.{areasOf, totalOf}
+use Rattle.acceptance.specs.declared.Rule.{Rule}
+use Rattle.acceptance.specs.Judged.{judgedAs, judgedOf}
 use Rattle.acceptance.specs.Rules.{headChecks, tableChecks, tailChecks, profileChecks}
+use Rattle.acceptance.proofs.Judging.{judged-broken}
 use Rattle.acceptance.proofs.Laws.{goes-on, stops}
 use Rattle.acceptance.proofs.judge.Statement.{statement}
 use Rattle.acceptance.proofs.judge.Tie as tie
@@ -21,16 +25,17 @@ check-rest-requires : tie.Need-check-rest-requires
 check-rest-requires c κs = search needs
 
 returns : tie.Need-returns
-unfolding profileChecks
+unfolding judgedOf profileChecks
 returns c =
     let p = c .before .before .before .before .args .profile in
-    sym (stops (headChecks p) (tableChecks 0 0 (areasOf p) ++ tailChecks p) _ (sym (c .before .before .before .check-head .ensures) ∙ c .before .head .given .1))
+    judged-broken _ _ _ (stops (headChecks p) (tableChecks 0 0 (areasOf p) ++ tailChecks p) _ (sym (c .before .before .before .check-head .ensures) ∙ c .before .head .given .1))
 
 returns-2 : tie.Need-returns-2
-unfolding profileChecks
+unfolding judgedOf profileChecks
 returns-2 c =
     let p = c .before .before .before .before .args .profile in
-    c .check-rest .ensures ∙ sym (goes-on (headChecks p) (tableChecks 0 0 (areasOf p) ++ tailChecks p) (sym (c .before .before .before .check-head .ensures) ∙ c .before .enum-told .given .1))
+    let later = goes-on (headChecks p) (tableChecks 0 0 (areasOf p) ++ tailChecks p) (sym (c .before .before .before .check-head .ensures) ∙ c .before .enum-told .given .1) in
+    c .check-rest .ensures ∙ sym (ap (λ (f : Option Rule). judgedAs f (totalOf (areasOf p))) later)
 
 pub judge-spec : {M : Type 1} → statement M
 judge-spec =

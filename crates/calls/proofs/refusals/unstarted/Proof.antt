@@ -2,6 +2,7 @@
 use mathlib.Core.Path.{sym, _∙_}
 use borrow.Author.Needs.{needs}
 use Rattle.acceptance.proofs.Accepted.{judged}
+use Rattle.acceptance.proofs.Judging.{found-of, total-of}
 use Rattle.calls.proofs.Rows.{breaks-not, start-first, start-second, start-accepts}
 use Rattle.calls.proofs.refusals.unstarted.Statement.{statement}
 use Rattle.calls.proofs.refusals.unstarted.Tie as tie
@@ -15,25 +16,26 @@ enum-told c = search needs
 enum-told-2 : tie.Need-enum-told-2
 enum-told-2 c = search needs
 
-total-requires : tie.Need-total-requires
-total-requires c κs = search needs
-
 returns : tie.Need-returns
 returns c =
     let a = c .before .before .before .before .before .args in
-    sym (start-second (a .profile) (a .length) (judged (a .profile) (sym (c .before .before .before .before .judge .ensures) ∙ c .before .before .enum-told2 .given .1)) (λ e. c .if1 .taken (e ∙ sym (c .before .total .ensures .0))))
+    let j = c .before .before .before .before .judge in
+    let fine = judged (a .profile) (sym (found-of (a .profile) (j .result) (j .ensures)) ∙ c .before .before .enum-told2 .given .1) in
+    sym (start-second (a .profile) (a .length) fine (λ e. c .if1 .taken (e ∙ sym (total-of (a .profile) (j .result) (j .ensures) fine))))
 
 returns-2 : tie.Need-returns-2
 returns-2 c =
     let a = c .before .before .before .args in
-    sym (start-first (a .profile) (a .length) (breaks-not (a .profile) _ (sym (c .before .before .judge .ensures) ∙ c .enum-told .given .1)))
+    let j = c .before .before .judge in
+    sym (start-first (a .profile) (a .length) (breaks-not (a .profile) _ (sym (found-of (a .profile) (j .result) (j .ensures)) ∙ c .enum-told .given .1)))
 
 returns-3 : tie.Need-returns-3
 returns-3 c =
     let a = c .before .before .before .before .before .args in
-    sym (start-accepts (a .profile) (a .length) (judged (a .profile) (sym (c .before .before .before .before .judge .ensures) ∙ c .before .before .enum-told2 .given .1)) (c .if1 .left ∙ c .before .total .ensures .0))
+    let j = c .before .before .before .before .judge in
+    let fine = judged (a .profile) (sym (found-of (a .profile) (j .result) (j .ensures)) ∙ c .before .before .enum-told2 .given .1) in
+    sym (start-accepts (a .profile) (a .length) fine (c .if1 .left ∙ total-of (a .profile) (j .result) (j .ensures) fine))
 
 pub unstarted-spec : {M : Type 1} → statement M
 unstarted-spec =
-    tie.close
-    (tie.spec judge-requires enum-told enum-told-2 total-requires returns returns-2 returns-3)
+    tie.close (tie.spec judge-requires enum-told enum-told-2 returns returns-2 returns-3)
