@@ -4,7 +4,6 @@ use Rattle.gathering.proofs.Adding.{gain-first, gain-more}
 use borrow.Author.Needs.{needs}
 use Rattle.gathering.proofs.gain.Statement.{statement}
 use Rattle.gathering.proofs.gain.Tie as tie
-use Rattle.gathering.proofs.gain.Reads as reads
 
 opening-requires : tie.Need-opening-requires
 opening-requires c κs = search needs

@@ -8,7 +8,6 @@ use Rattle.gathering.proofs.Adding.{taken-there, taken-room}
 use borrow.Author.Needs.{needs}
 use Rattle.gathering.proofs.gather.Statement.{statement}
 use Rattle.gathering.proofs.gather.Tie as tie
-use Rattle.gathering.proofs.gather.Reads as reads
 
 slice-reshare-prefix-gain : tie.Need-slice-reshare-prefix-gain
 slice-reshare-prefix-gain c = search needs

@@ -9,7 +9,6 @@ use borrow.Author.Tests.{not-true, not-false}
 use borrow.Author.Needs.{needs}
 use Rattle.gathering.proofs.opening.Statement.{statement}
 use Rattle.gathering.proofs.opening.Tie as tie
-use Rattle.gathering.proofs.opening.Reads as reads
 
 returns : tie.Need-returns
 returns c = open-few (c .before .before .args .stage) (c .before .before .args .input .now) (c .if1 .taken)
