@@ -60,15 +60,20 @@ four-part m at bs k h i =
     four-read k (take m (drop at bs)) (omega arith) ∙ ap number (bytes-part m at bs 4 k i) ∙ sym (four-read (at + k) bs (omega arith))
 
 -- an area in 17 bytes that were cut out
-pub area-part : (m at : ℕ) (bs : List ℕ) → m ≡ 17 → at + 17 ≤ length bs → areaAt (take m (drop at bs)) 0 ≡ areaAt bs at
-area-part m at bs e h =
-    let i : at + m ≤ length bs = omega arith in
+area-part : (at : ℕ) (bs : List ℕ) → at + 17 ≤ length bs → areaAt (take 17 (drop at bs)) 0 ≡ areaAt bs at
+area-part at bs h =
     rw (
-      byte-part m at bs 0 (omega arith),
-      four-part m at bs 1 i (omega arith),
-      four-part m at bs 5 i (omega arith),
-      four-part m at bs 9 i (omega arith),
-      four-part m at bs 13 i (omega arith),
+      byte-part 17 at bs 0 (omega arith),
+      four-part 17 at bs 1 h (omega arith),
+      four-part 17 at bs 5 h (omega arith),
+      four-part 17 at bs 9 h (omega arith),
+      four-part 17 at bs 13 h (omega arith),
       add-zero at,
     )
     refl
+
+-- such an area in front of the areas behind it
+pub part-more : (n at : ℕ) (bs : List ℕ) {a : Area} {more : List Area} → at + 17 ≤ length bs → a ≡ areaAt (take 17 (drop at bs)) 0
+    → more ≡ areasFrom n (at + 17) bs → a ∷ more ≡ areasFrom (suc n) at bs
+unfolding areasFrom
+part-more n at bs h e f = rw (e, f, area-part at bs h) refl

@@ -1,6 +1,7 @@
 // A profile out of 156 bytes.
 ghost use mathlib.Core.Path.{_≡_};
 ghost use Prim.Native.Nat.{_≤_};
+ghost use lib.ListN.{length};
 ghost use Rattle.fields.specs.Fields.{twoAt};
 ghost use Rattle.profile_bytes.specs.Profile.{areaAt, areasFrom, profileIn};
 use numbers::Number;
@@ -46,21 +47,8 @@ fn area_cut(bytes: &[u8], at: usize) -> Area
     }
 }
 
-// The area in the 17 bytes from a place on: whole bytes are cut out once, so that each field's length test is known.
-fn area_at(bytes: &[u8], at: usize) -> Area
-    requires { ⌜ at ≤ 139 ⌝ }
-    ensures { λ r. ⌜ r ≡ areaAt (now (bytes .entry)) at ⌝ }
-{
-    let end = at + 17;
-    if bytes.len() >= end {
-        area_of(&bytes[at..end])
-    } else {
-        area_cut(bytes, at)
-    }
-}
-
-// The eight areas, each read and stored before the next.
-fn areas_in(bytes: &[u8]) -> [Area; 8]
+// The eight areas, where the bytes may end before they do.
+fn areas_cut(bytes: &[u8]) -> [Area; 8]
     ensures { λ r. ⌜ r ≡ areasFrom 8 20 (now (bytes .entry)) ⌝ }
 {
     let none = Area {
@@ -73,18 +61,55 @@ fn areas_in(bytes: &[u8]) -> [Area; 8]
     let mut areas = [none; 8];
     let mut i = 0;
     while i < 8 {
-        areas[i] = area_at(bytes, 20 + 17 * i);
+        areas[i] = area_cut(bytes, 20 + 17 * i);
         i += 1;
     }
     areas
 }
 
-// The profile in the bytes; what they lack counts as 0.
-pub fn profile_in(bytes: &[u8]) -> Profile
+// The eight areas in 156 bytes.
+fn areas_whole(profile: &[u8]) -> [Area; 8]
+    requires { ⌜ length (now profile) ≡ 156 ⌝ }
+    ensures { λ r. ⌜ r ≡ areasFrom 8 20 (now (profile .entry)) ⌝ }
+{
+    [
+        area_of(&profile[20..37]),
+        area_of(&profile[37..54]),
+        area_of(&profile[54..71]),
+        area_of(&profile[71..88]),
+        area_of(&profile[88..105]),
+        area_of(&profile[105..122]),
+        area_of(&profile[122..139]),
+        area_of(&profile[139..156]),
+    ]
+}
+
+// The profile in 156 bytes: each place is known, so nothing is tested. The fields in front of the areas are read as in `cut`: one function for
+// both stays a call in the compiled code, which tests each field and copies the areas.
+fn whole(profile: &[u8]) -> Profile
+    requires { ⌜ length (now profile) ≡ 156 ⌝ }
+    ensures { λ r. ⌜ r ≡ profileIn (now (profile .entry)) ⌝ }
+{
+    Profile {
+        areas: areas_whole(profile),
+        noa: fields::byte_at(profile, 0),
+        sci: fields::four_at(profile, 4),
+        rmb: fields::four_at(profile, 8),
+        typ: fields::byte_at(profile, 1),
+        bfv: two_at(profile, 2),
+        window: Window {
+            low: fields::four_at(profile, 12),
+            high: fields::four_at(profile, 16),
+        },
+    }
+}
+
+// The profile in bytes of any number.
+fn cut(bytes: &[u8]) -> Profile
     ensures { λ r. ⌜ r ≡ profileIn (now (bytes .entry)) ⌝ }
 {
     Profile {
-        areas: areas_in(bytes),
+        areas: areas_cut(bytes),
         noa: fields::byte_at(bytes, 0),
         sci: fields::four_at(bytes, 4),
         rmb: fields::four_at(bytes, 8),
@@ -95,4 +120,14 @@ pub fn profile_in(bytes: &[u8]) -> Profile
             high: fields::four_at(bytes, 16),
         },
     }
+}
+
+// The profile in the bytes; what they lack counts as 0.
+pub fn profile_in(bytes: &[u8]) -> Profile
+    ensures { λ r. ⌜ r ≡ profileIn (now (bytes .entry)) ⌝ }
+{
+    if bytes.len() == 156 {
+        return whole(bytes);
+    }
+    cut(bytes)
 }
