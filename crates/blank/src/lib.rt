@@ -64,14 +64,22 @@ fn blank_front(target: &[u8], from: usize, piece: usize) -> usize
     at
 }
 
-// The first unit that holds a byte other than FFh. What is blank at the front is passed quickly, whatever the unit, by 256 bytes
-// and then by 64; so the search, which stops at the first other byte, has fewer than 64 to look at before it.
+// The same with pieces of 256 bytes, of 64 and of 16: the end, or fewer than 16 bytes before the first other one.
+fn passed(target: &[u8]) -> usize
+    ensures { λ r. ⌜ (r ≤ length (now (target .entry))) × (allBlank (take r (now (target .entry))) ≡ true) ⌝ }
+{
+    let far = blank_front(target, 0, 256);
+    let near = blank_front(target, far, 64);
+    blank_front(target, near, 16)
+}
+
+// The first unit that holds a byte other than FFh. What is blank at the front is passed quickly, whatever the unit; so the
+// search, which stops at the first other byte, has few to look at before it.
 pub fn first_dirty(target: &[u8], unit: usize) -> Search
     ensures { λ r. ⌜ r ≡ searched unit (now (target .entry)) ⌝ }
 {
     let step = if unit == 0 { 1 } else { unit };
-    let far = blank_front(target, 0, 256);
-    let front = blank_front(target, far, 64);
+    let front = passed(target);
     let mut found = Search::Clean;
     let mut number = front / step;
     let mut at = number * step;

@@ -60,6 +60,7 @@ pub struct Fed {
     pub count: usize,
 }
 
+#[inline]
 pub fn start(profile: &[u8], image: &[u8], state: &mut [u8]) -> u32 {
     unsafe {
         indraveck_start(
@@ -73,6 +74,7 @@ pub fn start(profile: &[u8], image: &[u8], state: &mut [u8]) -> u32 {
     }
 }
 
+#[inline]
 pub fn reset(profile: &[u8], image: &[u8], state: &mut [u8]) -> u32 {
     unsafe {
         indraveck_reset(
@@ -86,6 +88,7 @@ pub fn reset(profile: &[u8], image: &[u8], state: &mut [u8]) -> u32 {
     }
 }
 
+#[inline]
 pub fn feed(
     profile: &[u8],
     image: &mut [u8],
@@ -123,6 +126,7 @@ pub fn feed(
 }
 
 /// Where the payload stands in the receive buffer; `None` where it is empty.
+#[inline]
 pub fn payload(receive: &[u8], count: usize) -> Option<std::ops::Range<usize>> {
     let mut start = 0;
     let mut length = 0;
@@ -143,6 +147,7 @@ pub fn payload(receive: &[u8], count: usize) -> Option<std::ops::Range<usize>> {
 }
 
 /// The number of the refusal, 0 for accepted, and how many of the recording's bytes could be read.
+#[inline]
 pub fn replay(profile: &[u8], image: &mut [u8], recording: &[u8]) -> (u32, usize) {
     let mut read = 0;
     let refusal = unsafe {

@@ -12,48 +12,45 @@ use Rattle.blank.proofs.first_dirty.Statement.{statement}
 use Rattle.blank.proofs.first_dirty.Tie as tie
 
 abbrev Inv-loop : tie.InvT-loop
-Inv-loop target unit step far front found₀ number at end k₀ found k = (found ≡ Clean) × (at ≤ k) × (k ≤ end) × (searched unit target ≡ searchedFrom step k (drop k target))
+Inv-loop target unit step front found₀ number at end k₀ found k = (found ≡ Clean) × (at ≤ k) × (k ≤ end) × (searched unit target ≡ searchedFrom step k (drop k target))
 
 abbrev μ-loop : tie.MeasureT-loop
-μ-loop target unit step far front found₀ number at end k₀ found k = end - k
+μ-loop target unit step front found₀ number at end k₀ found k = end - k
 
 abbrev Inv-units : tie.InvT-units
-Inv-units target unit step far front found₀ number₀ at₀ found number at = (found ≡ Clean) × (step ≡ max unit 1) × (at ≡ min (number * step) (length target)) × (front ≤ at + step) × (searched unit target ≡ searchedFrom step (max at front) (drop (max at front) target))
+Inv-units target unit step front found₀ number₀ at₀ found number at = (found ≡ Clean) × (step ≡ max unit 1) × (at ≡ min (number * step) (length target)) × (front ≤ at + step) × (searched unit target ≡ searchedFrom step (max at front) (drop (max at front) target))
 
 abbrev μ-units : tie.MeasureT-units
-μ-units target unit step far front found₀ number₀ at₀ found number at = length target - at
+μ-units target unit step front found₀ number₀ at₀ found number at = length target - at
 
-blank-front-requires : tie.Need-blank-front-requires Inv-loop μ-loop Inv-units μ-units
-blank-front-requires c κs = (omega arith, omega arith, front-start (c .before .before .args .target .now))
-
-blank-front-requires-2 : tie.Need-blank-front-requires-2 Inv-loop μ-loop Inv-units μ-units
-blank-front-requires-2 c κs = (omega arith, c .blank-front .ensures .0, c .blank-front .ensures .1)
+passed-requires : tie.Need-passed-requires Inv-loop μ-loop Inv-units μ-units
+passed-requires c κs = search needs
 
 div-number : tie.Need-div-number Inv-loop μ-loop Inv-units μ-units
 div-number c =
-    let p : 0 < c .before .before .before .if1 .step = ⊎-elim (λ w. omega arith) (λ w. omega arith) (c .before .before .before .if1 .came) in
+    let p : 0 < c .before .before .if1 .step = ⊎-elim (λ w. omega arith) (λ w. omega arith) (c .before .before .if1 .came) in
     search needs
 
 mul-at : tie.Need-mul-at Inv-loop μ-loop Inv-units μ-units
 mul-at c =
-    let p : 0 < c .before .before .before .if1 .step = ⊎-elim (λ w. omega arith) (λ w. omega arith) (c .before .before .before .if1 .came) in
-    let b = unit-before (c .before .before .before .if1 .step) (c .before .blank-front2 .result) p in
+    let p : 0 < c .before .before .if1 .step = ⊎-elim (λ w. omega arith) (λ w. omega arith) (c .before .before .if1 .came) in
+    let b = unit-before (c .before .before .if1 .step) (c .before .passed .result) p in
     omega arith
 
 units-holds : tie.Need-units-holds Inv-loop μ-loop Inv-units μ-units
 units-holds c =
-    let l = c .before .before .before .before .before .args .target .now in
-    let front = c .before .blank-front2 .result in
-    let step = c .before .before .before .if1 .step in
-    let s : c .before .before .before .if1 .step ≡ max (c .before .before .before .before .before .args .unit) 1 = ⊎-elim (λ w. omega arith) (λ w. omega arith) (c .before .before .before .if1 .came) in
-    let p : 0 < c .before .before .before .if1 .step = omega arith in
+    let l = c .before .before .before .before .args .target .now in
+    let front = c .before .passed .result in
+    let step = c .before .before .if1 .step in
+    let s : c .before .before .if1 .step ≡ max (c .before .before .before .before .args .unit) 1 = ⊎-elim (λ w. omega arith) (λ w. omega arith) (c .before .before .if1 .came) in
+    let p : 0 < c .before .before .if1 .step = omega arith in
     let b = unit-before step front p in
     let m : front ≡ max (front / step * step) front = omega arith in (
       refl,
       s,
       omega arith,
       unit-behind step front p,
-      front-passed l (c .before .before .before .before .before .args .unit) front (c .before .blank-front2 .ensures .0) (c .before .blank-front2 .ensures .1)
+      front-passed l (c .before .before .before .before .args .unit) front (c .before .passed .ensures .0) (c .before .passed .ensures .1)
           ∙ ap (λ (u : ℕ). searchedFrom u front (drop front l)) (sym s)
           ∙ ap (λ (k : ℕ). searchedFrom step k (drop k l)) m,
     )
@@ -66,12 +63,12 @@ upper-requires c κs = search needs
 
 loop-holds : tie.Need-loop-holds Inv-loop μ-loop Inv-units μ-units
 loop-holds c =
-    let l = c .before .before .before .before .before .before .before .before .before .args .target .now in
+    let l = c .before .before .before .before .before .before .before .before .args .target .now in
     let u = c .before .before .before .units in
-    let step = c .before .before .before .before .before .before .before .if1 .step in
-    let front = c .before .before .before .before .before .blank-front2 .result in
+    let step = c .before .before .before .before .before .before .if1 .step in
+    let front = c .before .before .before .before .before .passed .result in
     let e = c .upper .ensures in
-    let w = later-within front (u .at) step (length l) (c .before .unit-end .result) (c .before .unit-end .ensures) (u .inv .3) (c .before .before .before .before .before .blank-front2 .ensures .0) (omega arith) in
+    let w = later-within front (u .at) step (length l) (c .before .unit-end .result) (c .before .unit-end .ensures) (u .inv .3) (c .before .before .before .before .before .passed .ensures .0) (omega arith) in
     (u .inv .0, omega arith, omega arith, u .inv .4 ∙ ap (λ (k : ℕ). searchedFrom step k (drop k l)) (sym e))
 
 shared-slice-read-if2 : tie.Need-shared-slice-read-if2 Inv-loop μ-loop Inv-units μ-units
@@ -85,15 +82,15 @@ loop-less c = search needs
 
 loop-again : tie.Need-loop-again Inv-loop μ-loop Inv-units μ-units
 loop-again c =
-    let l = c .before .before .before .before .before .before .before .before .before .before .before .before .before .args .target .now in
+    let l = c .before .before .before .before .before .before .before .before .before .before .before .before .args .target .now in
     let w = c .before .before .before .loop in
     let h : w .k < length l = omega arith in
-    (w .inv .0, omega arith, omega arith, w .inv .3 ∙ search-next (c .before .before .before .before .before .before .before .before .before .before .before .if1 .step) l (w .k) h (c .if2 .left))
+    (w .inv .0, omega arith, omega arith, w .inv .3 ∙ search-next (c .before .before .before .before .before .before .before .before .before .before .if1 .step) l (w .k) h (c .if2 .left))
 
 add-number : tie.Need-add-number Inv-loop μ-loop Inv-units μ-units
 add-number c =
     let u = c .before .before .before .before .before .units in
-    let h = number-fits (u .number) (c .before .before .before .before .before .before .before .before .before .if1 .step) (u .at) (length (c .before .before .before .before .before .before .before .before .before .before .before .args .target .now)) (u .inv .2) (omega arith) (omega arith) in
+    let h = number-fits (u .number) (c .before .before .before .before .before .before .before .before .if1 .step) (u .at) (length (c .before .before .before .before .before .before .before .before .before .before .args .target .now)) (u .inv .2) (omega arith) (omega arith) in
     omega arith
 
 units-less : tie.Need-units-less Inv-loop μ-loop Inv-units μ-units
@@ -101,14 +98,14 @@ units-less c = omega arith
 
 units-again : tie.Need-units-again Inv-loop μ-loop Inv-units μ-units
 units-again c =
-    let l = c .before .before .before .before .before .before .before .before .before .before .before .args .target .now in
+    let l = c .before .before .before .before .before .before .before .before .before .before .args .target .now in
     let u = c .before .before .before .before .before .units in
     let w = c .before .loop in
-    let step = c .before .before .before .before .before .before .before .before .before .if1 .step in
-    let front = c .before .before .before .before .before .before .before .blank-front2 .result in
+    let step = c .before .before .before .before .before .before .before .before .if1 .step in
+    let front = c .before .before .before .before .before .before .before .passed .result in
     let end = c .before .before .before .unit-end .result in
-    let f = front-within front (u .at) step (length l) end (c .before .before .before .unit-end .ensures) (u .inv .3) (c .before .before .before .before .before .before .before .blank-front2 .ensures .0) in
-    let e : w .k ≡ max (c .before .before .before .unit-end .result) (c .before .before .before .before .before .before .before .blank-front2 .result) = omega arith in (
+    let f = front-within front (u .at) step (length l) end (c .before .before .before .unit-end .ensures) (u .inv .3) (c .before .before .before .before .before .before .before .passed .ensures .0) in
+    let e : w .k ≡ max (c .before .before .before .unit-end .result) (c .before .before .before .before .before .before .before .passed .result) = omega arith in (
       w .inv .0,
       u .inv .1,
       c .before .before .before .unit-end .ensures ∙ next-unit (u .number) step (u .at) (length l) (u .inv .2),
@@ -119,17 +116,17 @@ units-again c =
 returns : tie.Need-returns Inv-loop μ-loop Inv-units μ-units
 returns c =
     let u = c .before .units in
-    let front = c .before .before .before .blank-front2 .result in
-    u .inv .0 ∙ sym (u .inv .4 ∙ search-end (c .before .before .before .before .before .if1 .step) (c .before .before .before .before .before .before .before .args .target .now) (max (u .at) front) (omega arith))
+    let front = c .before .before .before .passed .result in
+    u .inv .0 ∙ sym (u .inv .4 ∙ search-end (c .before .before .before .before .if1 .step) (c .before .before .before .before .before .before .args .target .now) (max (u .at) front) (omega arith))
 
 returns-2 : tie.Need-returns-2 Inv-loop μ-loop Inv-units μ-units
 returns-2 c =
-    let l = c .before .before .before .before .before .before .before .before .before .before .before .before .before .args .target .now in
+    let l = c .before .before .before .before .before .before .before .before .before .before .before .before .args .target .now in
     let u = c .before .before .before .before .before .before .before .units in
     let w = c .before .before .before .loop in
-    let step = c .before .before .before .before .before .before .before .before .before .before .before .if1 .step in
+    let step = c .before .before .before .before .before .before .before .before .before .before .if1 .step in
     let h : w .k < length l = omega arith in
-    let i : w .k < u .at + c .before .before .before .before .before .before .before .before .before .before .before .if1 .step = omega arith in
+    let i : w .k < u .at + c .before .before .before .before .before .before .before .before .before .before .if1 .step = omega arith in
     let n = unit-number (u .number) step (u .at) (length l) (u .inv .2) (c .before .before .before .before .before .before .units-test .taken) (w .k) (w .inv .1) i in
     sym (w .inv .3 ∙ search-found step l (w .k) h (c .if2 .taken) ∙ ap Dirty n)
 
@@ -141,8 +138,7 @@ first-dirty-spec =
     μ-loop
     Inv-units
     μ-units
-    blank-front-requires
-    blank-front-requires-2
+    passed-requires
     div-number
     mul-at
     units-holds
