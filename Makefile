@@ -2,7 +2,7 @@
 CARGO := ./cargo
 export INDRAVECK_HOST := $(shell uname -m)
 
-.PHONY: help library tool crates test test-c long-test more-edits bench fmt fmt-check
+.PHONY: help library tool crates test test-c long-test more-edits bench count fmt fmt-check
 
 help:
 	@echo "make tool       proves the library and builds ./indraveck over it"
@@ -11,6 +11,7 @@ help:
 	@echo "make long-test  the same with a million"
 	@echo "make more-edits the wrong versions that the gate leaves out for time"
 	@echo "make bench      measures both in one run and prints the ratios; the blank check by itself too"
+	@echo "make count      counts the instructions that both execute"
 
 ARCHIVES := target/staticlib/libinterface.a target/staticlib/libinterface_replay.a
 PROVED := crates.txt $(shell find crates -path '*/must-fail*' -prune -o -type f \( -name '*.rt' -o -name '*.antt' \) -print)
@@ -52,6 +53,9 @@ long-test: library
 
 more-edits:
 	./more-edits
+
+count: library
+	rust/benchmarks/count/run
 
 bench: library
 	rt staticlib gauge

@@ -2,10 +2,11 @@
 //! machine, and the best round of each counts. ROUNDS says how many.
 
 use criterion::black_box;
-use indraveck_evidence::session::{machine, Delivery, Memory, Script, Session, DELIVERIES};
+use indraveck_benchmarks::{rows, Row, MODEL};
+use indraveck_evidence::session::{machine, Delivery, Memory, Session};
 #[cfg(feature = "proved")]
 use indraveck_evidence::Proved;
-use indraveck_evidence::{Model, Subject};
+use indraveck_evidence::Subject;
 use std::time::{Duration, Instant};
 
 #[cfg(feature = "proved")]
@@ -19,70 +20,46 @@ fn timed<T>(work: impl FnOnce() -> T) -> Duration {
     start.elapsed()
 }
 
-struct Row<'a> {
-    name: String,
-    rounds: u32,
-    session: &'a Session,
-    script: &'a Script,
-    delivery: Delivery,
-    /// Before each round, outside of what is timed.
-    prepare: fn(&Session, &mut Memory),
-    /// Before the script, where it doesn't wake up by itself.
-    wake_up: bool,
-    check: fn(&Session, &Memory, usize),
-    limit: fn(&Session, &mut Memory) -> usize,
+fn subject(row: &Row, subject: &dyn Subject, memory: &mut Memory) -> Duration {
+    row.prepare(subject, memory);
+    let mut replied = 0;
+    let spent = timed(|| replied = row.run(subject, memory));
+    row.check(memory, replied);
+    spent
 }
 
-impl Row<'_> {
-    fn subject(&self, subject: &dyn Subject, memory: &mut Memory) -> Duration {
-        (self.prepare)(self.session, memory);
-        if self.wake_up {
-            self.session.wake_up(subject, memory);
-        } else {
-            self.session.restart(subject, memory);
-        }
-        let mut replied = 0;
-        let spent = timed(|| {
-            replied = self
-                .session
-                .run(subject, memory, self.script, self.delivery);
-        });
-        (self.check)(self.session, memory, replied);
-        spent
-    }
+fn limit(row: &Row, memory: &mut Memory) -> Duration {
+    row.prepare_flash(memory);
+    timed(|| (row.limit)(row.session, memory))
+}
 
-    fn limit(&self, memory: &mut Memory) -> Duration {
-        (self.prepare)(self.session, memory);
-        timed(|| (self.limit)(self.session, memory))
-    }
-
-    fn print(&self) {
-        let model = Model(None);
-        let mut memory = self.session.memory(&model);
-        let mut best = [None, None, None];
-        let mut take = |column: usize, spent: Duration| {
-            let slot: &mut Option<Duration> = &mut best[column];
-            *slot = Some(slot.map_or(spent, |best| best.min(spent)));
-        };
-        for _ in 0..self.rounds {
-            if let Some(proved) = PROVED {
-                take(0, self.subject(proved, &mut memory));
-            }
-            take(1, self.subject(&model, &mut memory));
-            take(2, self.limit(&mut memory));
+fn print(row: &Row) {
+    let mut memory = row.memory();
+    let mut best = [None, None, None];
+    let mut take = |column: usize, spent: Duration| {
+        let slot: &mut Option<Duration> = &mut best[column];
+        *slot = Some(slot.map_or(spent, |best| best.min(spent)));
+    };
+    // millions of calls for the large one byte by byte, long enough to be steady
+    let slow = row.delivery == Delivery::Bytes && row.session.size() > 0x1_0000;
+    for _ in 0..if slow { rounds().min(2) } else { rounds() } {
+        if let Some(proved) = PROVED {
+            take(0, subject(row, proved, &mut memory));
         }
-        let [proved, model, limit] = best;
-        println!(
-            "| {} | {} | {} | {} | {} | {} | {} |",
-            self.name,
-            milliseconds(proved),
-            milliseconds(model),
-            milliseconds(limit),
-            ratio(proved, model),
-            ratio(proved, limit),
-            ratio(model, limit)
-        );
+        take(1, subject(row, &MODEL, &mut memory));
+        take(2, limit(row, &mut memory));
     }
+    let [proved, model, limit] = best;
+    println!(
+        "| {} | {} | {} | {} | {} | {} | {} |",
+        row.name,
+        milliseconds(proved),
+        milliseconds(model),
+        milliseconds(limit),
+        ratio(proved, model),
+        ratio(proved, limit),
+        ratio(model, limit)
+    );
 }
 
 fn milliseconds(spent: Option<Duration>) -> String {
@@ -107,8 +84,6 @@ fn rounds() -> u32 {
     }
 }
 
-fn nothing(_: &Session, _: &mut Memory) {}
-
 fn main() {
     println!("{}; milliseconds, best of {} rounds", machine(), rounds());
     println!();
@@ -116,80 +91,5 @@ fn main() {
     println!("|---|--:|--:|--:|--:|--:|--:|");
     let small = Session::new(0x1_0000, 128);
     let large = Session::new(0x40_0000, 1024);
-    for (name, session) in [("64 KB, WAU 128", &small), ("4 MB, WAU 1,024", &large)] {
-        for delivery in DELIVERIES {
-            // millions of calls for the large one byte by byte, long enough to be steady
-            let slow = delivery == Delivery::Bytes && session.size() > 0x1_0000;
-            Row {
-                name: format!("session of {}, {}", name, delivery.name()),
-                rounds: if slow { rounds().min(2) } else { rounds() },
-                session,
-                script: &session.whole,
-                delivery,
-                prepare: nothing,
-                wake_up: false,
-                check: Session::check_whole,
-                limit: |session, memory| {
-                    session.move_plainly(memory);
-                    memory.back.len()
-                },
-            }
-            .print();
-        }
-    }
-    let part = Row {
-        name: String::new(),
-        rounds: rounds(),
-        session: &large,
-        script: &large.erase,
-        delivery: Delivery::Packets,
-        prepare: nothing,
-        wake_up: true,
-        check: |session, memory, _| session.check_erased(memory),
-        limit: |_, _| 0,
-    };
-    Row {
-        name: "erase of 4 MB beside fill".to_string(),
-        script: &large.erase,
-        limit: |session, memory| {
-            session.fill_plainly(memory);
-            memory.image.len()
-        },
-        ..part
-    }
-    .print();
-    Row {
-        name: "write of 4 MB into blank flash beside comparison and copy".to_string(),
-        script: &large.write,
-        prepare: Session::fill_plainly,
-        check: |session, memory, _| session.check_written(memory),
-        limit: |session, memory| {
-            let blank = session.compare_plainly(memory);
-            session.copy_in_plainly(memory);
-            blank
-        },
-        ..part
-    }
-    .print();
-    Row {
-        name: "writes refused at the last of 1,024 bytes, 4 MB, beside comparison".to_string(),
-        script: &large.refused,
-        prepare: Session::spoil,
-        check: |session, _, replied| session.check_refused(replied),
-        limit: |session, memory| session.compare_plainly(memory),
-        ..part
-    }
-    .print();
-    Row {
-        name: "read of 4 MB beside copy".to_string(),
-        script: &large.read,
-        prepare: Session::copy_in_plainly,
-        check: |session, memory, _| session.check_read(memory),
-        limit: |session, memory| {
-            session.copy_out_plainly(memory);
-            memory.back.len()
-        },
-        ..part
-    }
-    .print();
+    rows(&small, &large).iter().for_each(print);
 }

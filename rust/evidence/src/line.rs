@@ -269,22 +269,32 @@ impl<'a> Line<'a> {
         }
     }
 
-    pub fn start(&mut self) -> Result<u32, String> {
+    /// Both sides start or reset, and are compared.
+    fn fresh(
+        &mut self,
+        word: &str,
+        call: fn(&dyn Subject, &[u8], &[u8], &mut [u8]) -> u32,
+    ) -> Result<u32, String> {
         self.calls += 1;
-        let right = {
-            let (side, subject) = (&mut self.model, self.pair.model);
-            let state = side.state.lent_mut();
-            subject.start(self.profile.lent(), side.image.lent(), state)
-        };
+        let profile = self.profile.lent();
+        let side = &mut self.model;
+        let state = side.state.lent_mut();
+        let right = call(self.pair.model, profile, side.image.lent(), state);
         self.keep_receive();
-        let tested = {
-            let (side, subject) = (&mut self.tested, self.pair.tested);
-            let state = side.state.lent_mut();
-            subject.start(self.profile.lent(), side.image.lent(), state)
-        };
+        let profile = self.profile.lent();
+        let side = &mut self.tested;
+        let state = side.state.lent_mut();
+        let tested = call(self.pair.tested, profile, side.image.lent(), state);
         self.compare_shared(&[])
             .and_then(|()| self.compare_fresh(tested, right))
-            .map_err(|difference| format!("call {} (start): {}", self.calls, difference))?;
+            .map_err(|difference| format!("call {} ({}): {}", self.calls, word, difference))?;
+        Ok(right)
+    }
+
+    pub fn start(&mut self) -> Result<u32, String> {
+        let right = self.fresh("start", |subject, profile, image, state| {
+            subject.start(profile, image, state)
+        })?;
         self.stored = 0;
         self.record = match right {
             0 => Some(Record {
@@ -300,21 +310,9 @@ impl<'a> Line<'a> {
     }
 
     pub fn reset(&mut self) -> Result<u32, String> {
-        self.calls += 1;
-        let right = {
-            let (side, subject) = (&mut self.model, self.pair.model);
-            let state = side.state.lent_mut();
-            subject.reset(self.profile.lent(), side.image.lent(), state)
-        };
-        self.keep_receive();
-        let tested = {
-            let (side, subject) = (&mut self.tested, self.pair.tested);
-            let state = side.state.lent_mut();
-            subject.reset(self.profile.lent(), side.image.lent(), state)
-        };
-        self.compare_shared(&[])
-            .and_then(|()| self.compare_fresh(tested, right))
-            .map_err(|difference| format!("call {} (reset): {}", self.calls, difference))?;
+        let right = self.fresh("reset", |subject, profile, image, state| {
+            subject.reset(profile, image, state)
+        })?;
         self.pair.happened(effects::reset_refused(right));
         if right == 0 {
             self.follow_reset();

@@ -50,6 +50,7 @@ impl Script {
 pub struct Session {
     profile: Vec<u8>,
     size: usize,
+    wau: u32,
     content: Vec<u8>,
     pub whole: Script,
     pub erase: Script,
@@ -98,6 +99,7 @@ impl Session {
         Session {
             profile: model::profile_bytes(&profile).to_vec(),
             size: size as usize,
+            wau,
             content,
             whole: Script::new(whole),
             erase: Script::new(erase),
@@ -109,6 +111,24 @@ impl Session {
 
     pub fn size(&self) -> usize {
         self.size
+    }
+
+    pub fn name(&self) -> String {
+        let wau = if self.wau < 1000 {
+            self.wau.to_string()
+        } else {
+            format!("{},{:03}", self.wau / 1000, self.wau % 1000)
+        };
+        format!("{}, WAU {}", self.size_name(), wau)
+    }
+
+    /// Whole KB or MB.
+    pub fn size_name(&self) -> String {
+        if self.size < 0x10_0000 {
+            format!("{} KB", self.size / 0x400)
+        } else {
+            format!("{} MB", self.size / 0x10_0000)
+        }
     }
 
     /// Memory for a started device whose flash isn't blank.

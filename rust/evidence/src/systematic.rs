@@ -530,7 +530,6 @@ fn boundaries(pair: &Pair) -> Outcome {
         made::top(),
     ];
     for profile in checked {
-        let image = full(&profile);
         let mut addresses: Vec<u32> = made::used(&profile)
             .iter()
             .flat_map(|area| made::edges(&profile, area))
@@ -538,33 +537,27 @@ fn boundaries(pair: &Pair) -> Outcome {
             .collect();
         addresses.sort_unstable();
         addresses.dedup();
-        let mut line = placed(pair, &profile, image.clone(), Stage::Command);
-        let fresh = line.lent();
-        for first in &addresses {
-            for last in &addresses {
-                for com in [packets::ERASE, packets::WRITE, packets::READ] {
-                    let fed = line.feed(&command(com, &range(*first, *last)))?;
-                    // an OK changes image or stage, and the next pair is to find them as this one did
-                    if line.reply(fed.count)[3] & 0x80 == 0 {
-                        line = Line::new(pair, &fresh);
-                    }
-                }
-            }
-        }
+        every_range(pair, &profile, &addresses)?;
     }
     // several packets and window edges in areas of more than a packet
     let profile = made::small();
-    let mut line = placed(pair, &profile, full(&profile), Stage::Command);
-    let fresh = line.lent();
     for area in made::used(&profile) {
-        let addresses = made::edges(&profile, area);
-        for first in &addresses {
-            for last in &addresses {
-                for com in [packets::ERASE, packets::WRITE, packets::READ] {
-                    let fed = line.feed(&command(com, &range(*first, *last)))?;
-                    if line.reply(fed.count)[3] & 0x80 == 0 {
-                        line = Line::new(pair, &fresh);
-                    }
+        every_range(pair, &profile, &made::edges(&profile, area))?;
+    }
+    Ok(())
+}
+
+/// Erase, write and read from each address to each, in flash without a blank byte.
+fn every_range(pair: &Pair, profile: &Profile, addresses: &[u32]) -> Outcome {
+    let mut line = placed(pair, profile, full(profile), Stage::Command);
+    let fresh = line.lent();
+    for first in addresses {
+        for last in addresses {
+            for com in [packets::ERASE, packets::WRITE, packets::READ] {
+                let fed = line.feed(&command(com, &range(*first, *last)))?;
+                // an OK changes image or stage, and the next range is to find them as this one did
+                if line.reply(fed.count)[3] & 0x80 == 0 {
+                    line = Line::new(pair, &fresh);
                 }
             }
         }

@@ -2,7 +2,7 @@
 
 mod common;
 
-use common::{pattern, root, Folder, Serving};
+use common::{pattern, root, Folder, Serving, SHOW_FLASH};
 use nix::pty::openpty;
 use nix::sys::signal::Signal;
 use nix::unistd::ttyname;
@@ -164,15 +164,7 @@ fn an_image_is_shown_in_words() {
     flash[0x4000..0x4010].copy_from_slice(b"Indraveck \x00\x01\x02\x03\x04\x05");
     flash[0x1_0000] = 0x7F;
     folder.write("flash.bin", &flash);
-    let arguments = [
-        "image",
-        "show",
-        "--profile",
-        "bench.toml",
-        "--image",
-        "flash.bin",
-    ];
-    let output = folder.run(&arguments);
+    let output = folder.run(&SHOW_FLASH);
     assert_eq!(output.status.code(), Some(0), "{:?}", output);
     let expected = "\
 area 0: user, 00000000h to 0000FFFFh (65,536 bytes), erased by 8,192 bytes, written by 128 bytes
@@ -186,7 +178,7 @@ ID code: 7F FF FF FF FF FF FF FF FF FF FF FF FF FF FF FF
   bit 127 is 0: every authentication is refused (DCh)
 ";
     assert_eq!(String::from_utf8_lossy(&output.stdout), expected);
-    let output = folder.run(&[&arguments[..], &["--range", "0x3FF8-0x4011"]].concat());
+    let output = folder.run(&[&SHOW_FLASH[..], &["--range", "0x3FF8-0x4011"]].concat());
     let expected = "\
 00003FF8h  FF FF FF FF FF FF FF FF 49 6E 64 72 61 76 65 63  ........Indravec
 00004008h  6B 20 00 01 02 03 04 05 FF FF                    k ........

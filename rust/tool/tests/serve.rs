@@ -2,7 +2,9 @@
 
 mod common;
 
-use common::{command, data, packet, pattern, range, Client, Folder, Serving, ERASED, WRITTEN};
+use common::{
+    command, data, packet, pattern, range, Client, Folder, Serving, ERASED, SHOW_FLASH, WRITTEN,
+};
 use indraveck::Profile;
 use indraveck_model::{Area, Entry};
 use nix::sys::signal::Signal;
@@ -279,15 +281,7 @@ fn an_image_in_use_is_refused_to_a_second_stand_in() {
         "indraveck: the image flash.bin is in use by another stand-in\n  what to do: end that one first, or give each its own image\n"
     );
     // looking is allowed
-    let arguments = [
-        "image",
-        "show",
-        "--profile",
-        "bench.toml",
-        "--image",
-        "flash.bin",
-    ];
-    assert_eq!(folder.run(&arguments).status.code(), Some(0));
+    assert_eq!(folder.run(&SHOW_FLASH).status.code(), Some(0));
 }
 
 /// A script that asks and never takes its answers: the tool waits for it, and still ends when told to.

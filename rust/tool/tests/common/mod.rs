@@ -17,6 +17,15 @@ use std::time::{Duration, Instant};
 /// How long an answer may take before a test calls it missing.
 const PATIENCE: Duration = Duration::from_secs(20);
 
+pub const SHOW_FLASH: [&str; 6] = [
+    "image",
+    "show",
+    "--profile",
+    "bench.toml",
+    "--image",
+    "flash.bin",
+];
+
 /// The root of the repository.
 pub fn root() -> PathBuf {
     Path::new(env!("CARGO_MANIFEST_DIR")).join("../..")
