@@ -54,12 +54,15 @@ long-test: library
 more-edits:
 	./more-edits
 
-count: library
-	rust/benchmarks/count/run
-
-bench: library
+# exports the blank check alone, for the benchmarks
+target/staticlib/libgauge.a: $(PROVED)
 	rt staticlib gauge
+
+bench: library target/staticlib/libgauge.a
 	$(CARGO) bench --offline -p indraveck-benchmarks
+
+count: library target/staticlib/libgauge.a
+	rust/benchmarks/count/run
 
 RUST_FILES = $(shell find rust -name '*.rs' -not -path '*/target/*')
 
