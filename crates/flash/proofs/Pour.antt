@@ -1,12 +1,13 @@
 -- A loop that writes the bytes of one list over those of another as long. Assumes nothing.
-use mathlib.Core.List.{List, _++_, append-nil}
+use mathlib.Core.List.{List, _++_}
 use mathlib.Core.Path.{_≡_, refl}
 use Prim.Native.Nat.{ℕ, suc, _+_, _≤_, _<_}
 use native.Mathlib.Nat.{le-of-lt}
 use native.Mathlib.Numerals.{add-one}
 use native.Mathlib.Omega.{arith}
-use lib.ListN.{length, take, drop, getD, set, drop-of-length-le}
-use lib.Seq.{take-all, take-suc, drop-cons, set-at, append-snoc, length-take-le}
+use lib.ListN.{length, take, drop, getD, set}
+use lib.Seq.{take-suc, drop-cons, set-at, append-snoc, length-take-le}
+use Rattle.numbers.proofs.Copied.{covered}
 
 -- the list l with its first i bytes those of s
 unfoldable pub poured : List ℕ → List ℕ → ℕ → List ℕ
@@ -26,6 +27,4 @@ module _ (l s : List ℕ) where
 
   pub pour-end : (i : ℕ) → length l ≤ i → length s ≡ length l → poured l s i ≡ s
   unfolding poured
-  pour-end i h e =
-      let k : length s ≤ i = omega arith in
-      rw (drop-of-length-le l h, take-all i s k) (append-nil s)
+  pour-end i h e = covered i s l (omega arith) h

@@ -1,13 +1,14 @@
 -- Erase and store as effects: inside their range, outside it, and in the part of the image that the code lends. Assumes nothing.
 use mathlib.Core.Bool.{cond}
-use mathlib.Core.List.{List}
+use mathlib.Core.List.{List, _++_}
 use mathlib.Core.Logic.{⊎-elim}
 use mathlib.Core.Path.{_≡_, refl, sym, ap, _∙_}
 use Prim.Native.Nat.{ℕ, _+_, _-_, _≤_, _<_, min}
 use native.Mathlib.Omega.{arith}
-use lib.ListN.{length, take, drop, getD, replicate, length-drop, length-replicate, getD-replicate}
-use lib.Seq.{getD-take, getD-drop, length-take-le}
+use lib.ListN.{length, take, drop, getD, replicate, length-replicate, getD-replicate}
+use lib.Seq.{getD-take, getD-drop}
 use borrow.Author.Tests.{le-leb, lt-leb, lt-ltb, le-ltb}
+use Rattle.numbers.proofs.Copied.{copied, part-count}
 use Rattle.profile.specs.declared.Area.{Area}
 use Rattle.flash.specs.Effects.{Effect, between, erasing, storing}
 use Rattle.flash.specs.Meets.{Meets}
@@ -89,13 +90,12 @@ module _ (a : Area) (base n s len lo hi sk : ℕ) (m : Meets a base n s (s + len
       (below lo hi)
 
 -- the part of an image
-module _ (lo hi : ℕ) (image : List ℕ) (h : hi ≤ length image) where
-  pub part-count : length (take (hi - lo) (drop lo image)) ≡ hi - lo
-  part-count = length-take-le (hi - lo) (drop lo image) (rw length-drop (omega arith))
-
 module _ (a : Area) (base lo hi : ℕ) (image : List ℕ) where
+  abbrev part : List ℕ
+  part = take (hi - lo) (drop lo image)
+
   -- the part filled with FFh
-  pub erase-part : (s e : ℕ) → Meets a base (length image) s (e + 1) lo hi → (new : List ℕ) → new ≡ replicate (length (take (hi - lo) (drop lo image))) 255
+  pub erase-part : (s e : ℕ) → Meets a base (length image) s (e + 1) lo hi → (new : List ℕ) → new ≡ replicate (length part) 255
       → replaced lo hi new image ≡ inArea (erasing s e) a base image
   erase-part s e m new n =
       let c = part-count lo hi image (m .fits) in
@@ -107,19 +107,25 @@ module _ (a : Area) (base lo hi : ℕ) (image : List ℕ) where
       ∙ getD-replicate (hi - lo) (k - lo) 255 255 j
       ∙ sym (erasing-in s e (a .sad + (k - base)) (getD image k 255) (m .range k h i .0) (m .range k h i .1)))
 
-  -- the bytes for the part's addresses are as many
+  -- of the bytes vs those for the part's addresses
+  abbrev source : List ℕ → ℕ → List ℕ
+  source vs sk = take (sk + (hi - lo) - sk) (drop sk vs)
+
+  -- they are as many
   pub store-count : (s : ℕ) (vs : List ℕ) (sk : ℕ) → Meets a base (length image) s (s + length vs) lo hi → sk ≡ min (a .sad - s) (length vs)
-      → length (take (hi - lo) (drop lo image)) ≡ length (take (sk + (hi - lo) - sk) (drop sk vs))
+      → length part ≡ length (source vs sk)
   store-count s vs sk m e =
       let g = source-fits a base (length image) s (length vs) lo hi sk m e in
       let w : hi - lo ≡ sk + (hi - lo) - sk = omega arith in
       part-count lo hi image (m .fits) ∙ w ∙ sym (part-count sk (sk + (hi - lo)) vs g)
 
-  -- the part written with them
+  -- the part with them copied over it
   pub store-part : (s : ℕ) (vs : List ℕ) (sk : ℕ) → Meets a base (length image) s (s + length vs) lo hi → sk ≡ min (a .sad - s) (length vs)
-      → (new : List ℕ) → new ≡ take (sk + (hi - lo) - sk) (drop sk vs) → replaced lo hi new image ≡ inArea (storing s vs) a base image
-  store-part s vs sk m e new n =
+      → (new : List ℕ) → new ≡ take (length (source vs sk)) (source vs sk) ++ drop (length (source vs sk)) part
+      → replaced lo hi new image ≡ inArea (storing s vs) a base image
+  store-part s vs sk m e new f =
       let w : sk + (hi - lo) - sk ≡ hi - lo = omega arith in
+      let n : new ≡ source vs sk = f ∙ copied (source vs sk) part (store-count s vs sk m e) in
       let c : length new ≡ hi - lo = ap length n ∙ sym (store-count s vs sk m e) ∙ part-count lo hi image (m .fits) in
       part-changed (storing s vs) a base s (s + length vs) lo hi image new (storing-only s vs) m c
       (λ k h i.

@@ -6,6 +6,7 @@ ghost use Rattle.profile.specs.Areas.{areasOf};
 ghost use Rattle.profile.specs.declared.Place.the-variants.{In};
 ghost use Rattle.flash.specs.Effects.{erased, stored, blanked, fetched, fetchedAt};
 ghost use Rattle.flash.specs.Meets.{bytesBelow, Meets};
+use numbers::lower;
 use profile::Area;
 use profile::Place;
 use profile::Profile;
@@ -29,30 +30,11 @@ fn fill(part: &mut [u8])
     }
 }
 
-// The bytes of `from`, which are as many.
-fn copy(part: &mut [u8], from: &[u8])
-    requires { ⌜ length (now part) ≡ length (now from) ⌝ }
-    ensures { λ _. ⌜ now (part .exit) ≡ now (from .entry) ⌝ }
-{
-    let mut i = 0;
-    while i < from.len() {
-        part[i] = from[i];
-        i += 1;
-    }
-}
-
 // Total erase.
 pub fn erase_all(image: &mut [u8])
     ensures { λ _. ⌜ now (image .exit) ≡ blanked (now (image .entry)) ⌝ }
 {
     fill(image);
-}
-
-// The smaller of the two.
-fn lower(a: usize, b: usize) -> usize
-    ensures { λ r. ⌜ r ≡ min a b ⌝ }
-{
-    if a < b { a } else { b }
 }
 
 // How far `a` lies above `b`; 0 where it does not.
@@ -118,7 +100,7 @@ pub fn store(image: &mut [u8], profile: Profile, address: u32, bytes: &[u8])
         // so many bytes belong to addresses below the area
         let skipped = lower(above(area.sad as usize, start), bytes.len());
         let last = skipped + (to - from);
-        copy(&mut image[from..to], &bytes[skipped..last]);
+        bytes::copy(&bytes[skipped..last], &mut image[from..to]);
         base += profile::size(area);
         i += 1;
     }

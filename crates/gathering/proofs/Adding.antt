@@ -1,16 +1,17 @@
 -- Bytes that come before the last of a packet only add to it: it stays incomplete. Assumes nothing.
 use mathlib.Core.Bool.{Bool, true, false}
-use mathlib.Core.List.{List, [], _∷_, _++_, append-nil, append-assoc}
+use mathlib.Core.List.{List, [], _∷_, _++_, append-nil}
 use mathlib.Core.Path.{_≡_, refl, sym, ap, subst, _∙_}
 use Prim.Native.Nat.{ℕ, _+_, _-_, _≤_, _<_, min}
 use native.Mathlib.Nat.{min-le-left, min-le-right, le-min}
 use native.Mathlib.Omega.{arith}
 use lib.Dec.{ltb}
 use lib.ListN.{length, take, drop, replicate, length-append, length-drop, length-replicate, List·getD-append}
-use lib.Seq.{paste, take-append-le, drop-append-le, drop-drop, take-add, length-take-le}
+use lib.Seq.{paste, take-append-le, drop-append-le, take-add, length-take-le}
 use borrow.Author.Tests.{lt-ltb, le-ltb, ltb-true, ltb-false, eq-eqb, ne-eqb, eqb-true}
 use Rattle.numbers.specs.Bytes.{numberAt}
 use Rattle.numbers.specs.declared.Number.the-variants.{Is, CutShort}
+use Rattle.numbers.proofs.Copied.{part-count, pasted}
 use Rattle.packet.specs.declared.Kind.{Kind}
 use Rattle.packet.specs.declared.Kind.the-variants.{Command as CommandPacket, Data as DataPacket}
 use Rattle.packet.specs.declared.Progress.the-variants.{Partial}
@@ -160,16 +161,17 @@ module _ (stage : Stage) (bs : List ℕ) where
 
 -- the first n bytes of bs, to rc from a place on
 module _ (rc bs : List ℕ) (at n : ℕ) (room : at + n ≤ length rc) (there : n ≤ length bs) where
-  pub part-count : length (take (at + n - at) (drop at rc)) ≡ length (take n bs)
-  part-count =
-      let k : at + n - at ≡ n = omega arith in
-      let l : n ≤ length (drop at rc) = rw length-drop (omega arith) in
-      rw k (length-take-le n (drop at rc) l ∙ sym (length-take-le n bs there))
+  abbrev part : List ℕ
+  part = take (at + n - at) (drop at rc)
 
-  pub placed : (new : List ℕ) → new ≡ take n bs → take at rc ++ (new ++ drop (at + n - at) (drop at rc)) ≡ paste rc at bs n
-  placed new f =
+  pub as-many : length part ≡ length (take n bs)
+  as-many =
       let k : at + n - at ≡ n = omega arith in
-      rw (f, k, drop-drop) (sym (append-assoc (take at rc) (take n bs) (drop (at + n) rc)))
+      part-count at (at + n) rc room ∙ k ∙ sym (length-take-le n bs there)
+
+  pub placed : (new : List ℕ) → new ≡ take (length (take n bs)) (take n bs) ++ drop (length (take n bs)) part
+      → take at rc ++ (new ++ drop (at + n - at) (drop at rc)) ≡ paste rc at bs n
+  placed new f = pasted at (at + n) rc room (omega arith) (take n bs) new as-many f
 
 -- what is gained is held
 module _ (stage : Stage) (bs : List ℕ) (n : ℕ) where

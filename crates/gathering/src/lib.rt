@@ -1,10 +1,11 @@
 // Bytes that only add to an incomplete packet, taken in one copy.
 ghost use mathlib.Core.Path.{_≡_};
-ghost use Prim.Native.Nat.{_+_, _≤_, min};
+ghost use Prim.Native.Nat.{_+_, _≤_};
 ghost use lib.ListN.{length};
 ghost use lib.Seq.{paste};
 ghost use Rattle.gathering.specs.Gather.{held, lackOf, openOf, gainOf, Holds, Taken};
 use numbers::Number;
+use numbers::lower;
 use state::Stage;
 use state::State;
 
@@ -29,32 +30,13 @@ pub fn holding(state: State, count: usize) -> State
     }
 }
 
-// The smaller of the two.
-fn lower(a: usize, b: usize) -> usize
-    ensures { λ r. ⌜ r ≡ min a b ⌝ }
-{
-    if a < b { a } else { b }
-}
-
-// The bytes of `from`, which are as many.
-fn copy(part: &mut [u8], from: &[u8])
-    requires { ⌜ length (now part) ≡ length (now from) ⌝ }
-    ensures { λ _. ⌜ now (part .exit) ≡ now (from .entry) ⌝ }
-{
-    let mut i = 0;
-    while i < from.len() {
-        part[i] = from[i];
-        i += 1;
-    }
-}
-
 // The first `count` bytes of `from`, to `receive` from `at` on.
 fn place(receive: &mut [u8], at: usize, from: &[u8], count: usize)
     requires { ⌜ (at + count ≤ length (now receive)) × (count ≤ length (now from)) ⌝ }
     ensures { λ _. ⌜ now (receive .exit) ≡ paste (now (receive .entry)) at (now (from .entry)) count ⌝ }
 {
     let end = at + count;
-    copy(&mut receive[at..end], &from[..count]);
+    bytes::copy(&from[..count], &mut receive[at..end]);
 }
 
 // How many bytes can come before the packet's last; none where its length has not come.

@@ -1,12 +1,13 @@
 // The ID code: where it is stored, and what a code that is sent to the device is answered.
 ghost use mathlib.Core.List.{_++_};
 ghost use mathlib.Core.Path.{_≡_};
-ghost use Prim.Native.Nat.{_≤_, min};
+ghost use Prim.Native.Nat.{_≤_};
 ghost use lib.ListN.{take, drop};
 ghost use Rattle.verdict.specs.Check.{firstFault, verdictOf};
 ghost use Rattle.profile.specs.Areas.{areasOf};
 ghost use Rattle.identity.specs.Identity.{Configured, noId, idOf, isNone, eraseCode, totalErase, idChecks};
 ghost use Rattle.compare.specs.Same.{same};
+use numbers::lower;
 use profile::Place;
 use profile::Profile;
 use profile::Spot;
@@ -49,13 +50,6 @@ fn config_area(profile: Profile) -> Place
         i += 1;
     }
     Place::Nowhere
-}
-
-// The smaller of the two.
-fn lower(a: usize, b: usize) -> usize
-    ensures { λ r. ⌜ r ≡ min a b ⌝ }
-{
-    if a < b { a } else { b }
 }
 
 // Sixteen bytes of the image from a place on, in one copy; FFh where it has none.

@@ -1,6 +1,6 @@
-// Numbers on the line: two or four bytes, high byte first.
+// Numbers on the line: two or four bytes, high byte first; and the smaller of two numbers.
 ghost use mathlib.Core.Path.{_≡_};
-ghost use Prim.Native.Nat.{_+_, _<_};
+ghost use Prim.Native.Nat.{_+_, _<_, min};
 ghost use lib.Dec.{leb};
 ghost use Rattle.numbers.specs.Bytes.{numberAt, Put};
 
@@ -8,6 +8,13 @@ ghost use Rattle.numbers.specs.Bytes.{numberAt, Put};
 pub enum Number {
     Is(u32),
     CutShort,
+}
+
+// The smaller of the two: a place or a count, cut to what there is.
+pub fn lower(a: usize, b: usize) -> usize
+    ensures { λ r. ⌜ r ≡ min a b ⌝ }
+{
+    if a < b { a } else { b }
 }
 
 // The byte as a wider number.

@@ -1,12 +1,13 @@
 -- The state's parts, put one after the other into 33 bytes, are all of them. Assumes nothing.
-use mathlib.Core.List.{List, [], _∷_, _++_, append-nil, append-assoc}
+use mathlib.Core.List.{List, [], _∷_, _++_}
 use mathlib.Core.Path.{_≡_, refl, sym, ap, _∙_}
 use Prim.Native.Nat.{ℕ, _+_, _%_, _≤_}
 use native.Mathlib.Omega.{arith}
-use lib.ListN.{length, take, drop, set, length-set, length-drop, drop-of-length-le}
-use lib.Seq.{sets, length-sets, paste, drop-drop, length-take-le}
+use lib.ListN.{length, take, drop, set, length-set}
+use lib.Seq.{sets, length-sets, paste, take-all}
 use borrow.Author.Tests.{le-leb}
 use Rattle.numbers.specs.Bytes.{bytesOf, withNumber}
+use Rattle.numbers.proofs.Copied.{part-count, pasted}
 use Rattle.baud.specs.declared.LineSetting.{LineSetting}
 use Rattle.state.specs.declared.Range.{Range}
 use Rattle.state.specs.declared.Stage.{Stage}
@@ -39,10 +40,9 @@ stage-put stage l l₁ l₂ n pulses r h e f g p q =
 pub id-put : (id d new : List ℕ) → length d ≡ 33 → length id ≡ 16 → new ≡ take (length id) id ++ drop (length id) (take 16 (drop 10 d))
     → take 10 d ++ (new ++ drop 16 (drop 10 d)) ≡ paste d 10 id 16
 id-put id d new h k e =
-    let m : 16 ≤ length (drop 10 d) = rw length-drop (omega arith) in
-    let o : length (take 16 (drop 10 d)) ≤ 16 = omega (arith, length-take-le 16 (drop 10 d) m) in
-    let f : new ≡ take 16 id = e ∙ rw (k, drop-of-length-le (take 16 (drop 10 d)) o) (append-nil (take 16 id)) in
-    rw (f, drop-drop) (sym (append-assoc (take 10 d) (take 16 id) (drop 26 d)))
+    let o : 26 ≤ length d = omega arith in
+    let f : id ≡ take 16 id = sym (take-all 16 id (omega arith)) in
+    pasted 10 26 d o (omega arith) id new (part-count 10 26 d o ∙ sym k) e ∙ ap (λ (s : List ℕ). take 10 d ++ s ++ drop 26 d) f
 
 pub line-put : (line : LineSetting) (held : ℕ) (l l₁ : List ℕ) → length l ≡ 33
     → l₁ ≡ withNumber 4 (held % 4294967296) 29 (set (set (set l 26 (line .abcs)) 27 (line .brr)) 28 (line .mddr))

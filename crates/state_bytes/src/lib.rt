@@ -2,7 +2,6 @@
 ghost use mathlib.Core.Bool.{_&&_};
 ghost use mathlib.Core.List.{[], _∷_, _++_};
 ghost use mathlib.Core.Path.{_≡_};
-ghost use Prim.Native.Nat.{min};
 ghost use lib.Dec.{eqb};
 ghost use lib.ListN.{length};
 ghost use lib.Seq.{sets, paste};
@@ -10,6 +9,7 @@ ghost use Rattle.numbers.specs.Bytes.{bytesOf};
 ghost use Rattle.fields.specs.Fields.{bytesFrom};
 ghost use Rattle.state_bytes.specs.State.{stageNumber, pulseNumber, pulsesOf, rangeOf, stageBytes, stageOf, settingIn, stageIn, stateWith, stateOver};
 use baud::LineSetting;
+use numbers::lower;
 use state::Pulse;
 use state::Range;
 use state::Stage;
@@ -87,13 +87,6 @@ pub fn stage_in(bytes: &[u8]) -> StageIn
         left: fields::four_at(bytes, 6),
     };
     stage_of(fields::byte_at(bytes, 0), fields::byte_at(bytes, 1), range)
-}
-
-// The smaller of the two.
-fn lower(a: usize, b: usize) -> usize
-    ensures { λ r. ⌜ r ≡ min a b ⌝ }
-{
-    if a < b { a } else { b }
 }
 
 // The sixteen bytes of the ID, in one copy; 0 where they are not there.

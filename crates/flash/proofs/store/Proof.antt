@@ -54,30 +54,30 @@ add-last : tie.Need-add-last Inv-loop μ-loop
 add-last c = omega arith
 
 sub-copy : tie.Need-sub-copy Inv-loop μ-loop
-sub-copy c = omega (arith, c .before .before .before .overlap .ensures .order)
+sub-copy c = omega arith
 
 part-copy-start : tie.Need-part-copy-start Inv-loop μ-loop
-part-copy-start c = omega (arith, c .before .before .before .overlap .ensures .order)
+part-copy-start c = omega arith
 
 part-copy-end : tie.Need-part-copy-end Inv-loop μ-loop
-part-copy-end c = omega (arith, c .before .before .before .overlap .ensures .fits)
-
-sub-copy-2 : tie.Need-sub-copy-2 Inv-loop μ-loop
-sub-copy-2 c = omega arith
-
-part-copy-start-2 : tie.Need-part-copy-start-2 Inv-loop μ-loop
-part-copy-start-2 c = omega arith
-
-part-copy-end-2 : tie.Need-part-copy-end-2 Inv-loop μ-loop
-part-copy-end-2 c =
-    let a = c .before .before .before .before .before .before .before .before .before .before .before .args in
-    let w = c .before .before .before .before .before .before .before .loop in
-    let o = c .before .before .before .before .overlap in
+part-copy-end c =
+    let a = c .before .before .before .before .before .before .before .before .before .before .args in
+    let w = c .before .before .before .before .before .before .loop in
+    let o = c .before .before .before .overlap in
     let p = o .result in
     let d = getD (a .t2 .areas) (w .i) noArea in
     let vs = a .bytes .now in
-    let s = c .before .lower .ensures ∙ ap (λ (k : ℕ). min k (length vs)) (c .before .before .above .ensures) in
-    source-fits d (w .base) (length (w .image)) (a .address) (length vs) (p .from) (p .to) (c .before .lower .result) (o .ensures) s
+    let s = c .lower .ensures ∙ ap (λ (k : ℕ). min k (length vs)) (c .before .above .ensures) in
+    source-fits d (w .base) (length (w .image)) (a .address) (length vs) (p .from) (p .to) (c .lower .result) (o .ensures) s
+
+sub-copy-2 : tie.Need-sub-copy-2 Inv-loop μ-loop
+sub-copy-2 c = omega (arith, c .before .before .before .before .overlap .ensures .order)
+
+part-copy-start-2 : tie.Need-part-copy-start-2 Inv-loop μ-loop
+part-copy-start-2 c = omega (arith, c .before .before .before .before .overlap .ensures .order)
+
+part-copy-end-2 : tie.Need-part-copy-end-2 Inv-loop μ-loop
+part-copy-end-2 c = omega (arith, c .before .before .before .before .overlap .ensures .fits)
 
 copy-requires : tie.Need-copy-requires Inv-loop μ-loop
 copy-requires c κs =
@@ -88,7 +88,8 @@ copy-requires c κs =
     let d = getD (a .t2 .areas) (w .i) noArea in
     let vs = a .bytes .now in
     let s = c .before .before .lower .ensures ∙ ap (λ (k : ℕ). min k (length vs)) (c .before .before .before .above .ensures) in
-    store-count d (w .base) (p .from) (p .to) (w .image) (a .address) vs (c .before .before .lower .result) (o .ensures) s
+    let e = store-count d (w .base) (p .from) (p .to) (w .image) (a .address) vs (c .before .before .lower .result) (o .ensures) s in
+    omega (arith, e)
 
 size-requires : tie.Need-size-requires Inv-loop μ-loop
 size-requires c κs = search needs
@@ -111,9 +112,9 @@ loop-again c =
     let p = o .result in
     let d = getD (a .t2 .areas) (w .i) noArea in
     let vs = a .bytes .now in
-    let new = c .before .before .before .copy .last .0 in
+    let new = c .before .before .before .copy .last .1 .0 in
     let s = c .before .before .before .before .before .before .lower .ensures ∙ ap (λ (k : ℕ). min k (length vs)) (c .before .before .before .before .before .before .before .above .ensures) in
-    let e = store-part d (w .base) (p .from) (p .to) (w .image) (a .address) vs (c .before .before .before .before .before .before .lower .result) (o .ensures) s new (c .before .before .before .copy .ensures) in
+    let e = store-part d (w .base) (p .from) (p .to) (w .image) (a .address) vs (c .before .before .before .before .before .before .lower .result) (o .ensures) s new (c .before .before .before .copy .ensures .1) in
     walk-next (storing (a .address) vs) (a .t2) (c .before .before .before .before .before .before .before .before .before .before .before .before .before .used .result) (a .image .now) (w .image) (replaced (p .from) (p .to) new (w .image)) (w .base) (w .i) (c .size .result) (w .inv) (c .before .before .before .before .before .before .before .before .before .before .before .loop-test .taken) (c .size .ensures) e
 
 same-length : tie.Need-same-length Inv-loop μ-loop

@@ -1,13 +1,17 @@
 -- `gathering::place` meets its contract. The part is as long as the bytes that it is to hold, and put back it is the copy. Assumes nothing.
-use Rattle.gathering.proofs.Adding.{part-count, placed}
-use lib.Seq.{length-take-le}
 use mathlib.Core.Path.{sym}
+use native.Mathlib.Omega.{arith}
+use lib.Seq.{length-take-le}
+use Rattle.gathering.proofs.Adding.{as-many, placed}
 use borrow.Author.Needs.{needs}
 use Rattle.gathering.proofs.place.Statement.{statement}
 use Rattle.gathering.proofs.place.Tie as tie
 
 add-end : tie.Need-add-end
 add-end c = search needs
+
+slice-aggregate-copy : tie.Need-slice-aggregate-copy
+slice-aggregate-copy c = let a = c .before .before .before .args in sym (length-take-le (a .count) (a .from .now) (c .before .before .before .pre .1))
 
 sub-copy : tie.Need-sub-copy
 sub-copy c = search needs
@@ -18,27 +22,29 @@ part-copy-start c = search needs
 part-copy-end : tie.Need-part-copy-end
 part-copy-end c = search needs
 
-slice-aggregate-copy : tie.Need-slice-aggregate-copy
-slice-aggregate-copy c = let a = c .before .before .before .before .args in sym (length-take-le (a .count) (a .from .now) (c .before .before .before .before .pre .1))
-
 copy-requires : tie.Need-copy-requires
-copy-requires c κs = let a = c .before .before .before .before .args in part-count (a .receive .now) (a .from .now) (a .at) (a .count) (c .before .before .before .before .pre .0) (c .before .before .before .before .pre .1)
+copy-requires c κs =
+    let a = c .before .before .before .before .args in
+    let e = as-many (a .receive .now) (a .from .now) (a .at) (a .count) (c .before .before .before .before .pre .0) (c .before .before .before .before .pre .1) in
+    omega (arith, e)
 
 same-length : tie.Need-same-length
 same-length c = search needs
 
 returns : tie.Need-returns
-returns c = let a = c .before .before .before .before .before .before .before .args in placed (a .receive .now) (a .from .now) (a .at) (a .count) (c .before .before .before .before .before .before .before .pre .0) (c .before .before .before .before .before .before .before .pre .1) (c .before .before .copy .last .0) (c .before .before .copy .ensures)
+returns c =
+    let a = c .before .before .before .before .before .before .before .args in
+    placed (a .receive .now) (a .from .now) (a .at) (a .count) (c .before .before .before .before .before .before .before .pre .0) (c .before .before .before .before .before .before .before .pre .1) (c .before .before .copy .last .1 .0) (c .before .before .copy .ensures .1)
 
 pub place-spec : {M : Type 1} → statement M
 place-spec =
     tie.close
     (tie.spec
     add-end
+    slice-aggregate-copy
     sub-copy
     part-copy-start
     part-copy-end
-    slice-aggregate-copy
     copy-requires
     same-length
     returns)
