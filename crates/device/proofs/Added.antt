@@ -11,10 +11,10 @@ use Rattle.profile.specs.declared.Profile.{Profile}
 use Rattle.packet.specs.declared.Kind.{Kind}
 use Rattle.packet.specs.declared.Kind.the-variants.{Command as CommandPacket, Data as DataPacket}
 use Rattle.packet.specs.declared.Progress.the-variants.{Partial}
-use Rattle.packet.specs.Packet.{progressOf}
+use Rattle.packet.specs.Packet.{progressOf, isPartial}
 use Rattle.state.specs.declared.Stage.{Stage}
 use Rattle.state.specs.declared.Stage.the-variants.{Setting, Authentication, Command, Writing, Reading}
-use Rattle.state.specs.Fits.{isPartial, heldFits}
+use Rattle.state.specs.Fits.{heldFits}
 use Rattle.state.proofs.FitParts.{is-partial}
 use Rattle.machine.specs.Step.{Machine, holding, heard, stepIn, stepOf}
 use Rattle.machine.specs.Feed.{Delivery, feedOf}

@@ -15,7 +15,6 @@ use Rattle.state.specs.Fit.{Fit}
 use Rattle.device.specs.declared.Fed.{Fed}
 use Rattle.calls.specs.declared.Refusal.{Refusal}
 use Rattle.calls.specs.declared.Refusal.the-variants.{Accepted, Unacceptable, WrongImage, WrongState, ShortReceive, ShortReply}
-use Rattle.gathering.specs.declared.Gathered.{Gathered}
 use Rattle.device.specs.declared.Stepped.{Stepped}
 use Rattle.machine.specs.Step.{Machine, machineOf, Step, holding, stepOf}
 use Rattle.machine.specs.Feed.{Delivery, feedOf}
@@ -94,19 +93,16 @@ module _ {p : Profile} {im₀ rc₀ rp₀ bs : List ℕ} {st₀ : State} {im rc 
       })
 
   -- what is held fits, with room for more
-  pub turned-holds : Holds st rc
+  pub turned-holds : Holds (st .stage) (st .held) rc
   turned-holds = record { inside = t .ready .fit .inside; fits = t .ready .fit .held; room = t .ready .receive }
 
-  -- bytes that only add to a packet
-  module _ {g : Gathered} {rc′ : List ℕ} (from-rest : Taken st (take (length bs - i) (drop i bs)) g rc rc′) where
-    k : Taken st (drop i bs) g rc rc′
-    k = subst (λ (l : List ℕ). Taken st l g rc rc′) (take-all (length bs - i) (drop i bs) (omega (arith, length-drop i bs))) from-rest
+  -- n bytes that only add to a packet
+  module _ {n : ℕ} {rc′ : List ℕ} (from-rest : Taken (st .stage) (st .held) (take (length bs - i) (drop i bs)) n rc rc′) where
+    k : Taken (st .stage) (st .held) (drop i bs) n rc rc′
+    k = subst (λ (l : List ℕ). Taken (st .stage) (st .held) l n rc rc′) (take-all (length bs - i) (drop i bs) (omega (arith, length-drop i bs))) from-rest
 
     abbrev q : List ℕ
     q = take (st .held) rc
-
-    abbrev n : ℕ
-    n = g .taken
 
     abbrev added : List ℕ
     added = take n (drop i bs)
@@ -115,16 +111,16 @@ module _ {p : Profile} {im₀ rc₀ rp₀ bs : List ℕ} {st₀ : State} {im rc 
     next = held (st .held + n) st
 
     enough : n ≤ length (drop i bs)
-    enough = taken-there st rc (drop i bs) turned-holds n (k .count)
+    enough = taken-there (st .stage) (st .held) rc (drop i bs) turned-holds n (k .taken)
 
     count : length added ≡ n
-    count = taken-count st rc (drop i bs) turned-holds n (k .count)
+    count = taken-count (st .stage) (st .held) rc (drop i bs) turned-holds n (k .taken)
 
-    room : st .held + n ≤ length rc
-    room = taken-room st rc (drop i bs) turned-holds n (k .count)
+    pub room : st .held + n ≤ length rc
+    room = taken-room (st .stage) (st .held) rc (drop i bs) turned-holds n (k .taken)
 
     was-count : length q ≡ st .held
-    was-count = held-count st rc (drop i bs) turned-holds n (k .count)
+    was-count = held-count (st .stage) (st .held) rc (drop i bs) turned-holds n (k .taken)
 
     kept : length rc′ ≡ length rc
     kept = ap length (k .receive) ∙ length-paste rc (st .held) (drop i bs) n room enough
@@ -139,7 +135,7 @@ module _ {p : Profile} {im₀ rc₀ rp₀ bs : List ℕ} {st₀ : State} {im rc 
     fits-now =
         record {
           inside = omega (arith, room, kept);
-          held = ap (heldFits (st .stage)) held-now ∙ taken-held st rc (drop i bs) turned-holds n (k .count);
+          held = ap (heldFits (st .stage)) held-now ∙ taken-held (st .stage) (st .held) rc (drop i bs) turned-holds n (k .taken);
           stage = t .ready .fit .stage;
         }
 
@@ -151,7 +147,7 @@ module _ {p : Profile} {im₀ rc₀ rp₀ bs : List ℕ} {st₀ : State} {im rc 
         machine-eq (holding (q ++ added) m .machine) (machineOf im next rc′) refl (sym held-now) (ap (λ (j : ℕ). held j st) (sym count-now)) in
         ap (λ (l : List ℕ). feedOf p m l) (sym (take-append-drop n (drop i bs)))
         ∙ ap (λ (x : Machine). feedOf p x (added ++ rest)) was
-        ∙ fed-more p m q added rest (taken-held st rc (drop i bs) turned-holds n (k .count))
+        ∙ fed-more p m q added rest (taken-held (st .stage) (st .held) rc (drop i bs) turned-holds n (k .taken))
         ∙ ap (λ (x : Machine). later (length added) (feedOf p x rest)) is
         ∙ ap (λ (j : ℕ). later j (feedOf p (machineOf im next rc′) rest)) count
 
@@ -160,10 +156,10 @@ module _ {p : Profile} {im₀ rc₀ rp₀ bs : List ℕ} {st₀ : State} {im rc 
         let z : n ≡ 0 = omega arith in
         k .receive ∙ ap (λ (j : ℕ). paste rc (st .held) (drop i bs) j) z ∙ sym (paste-zero rc (st .held) (drop i bs)) ∙ t .untouched (omega arith)
 
-    pub turned-more : Turned p im₀ rc₀ rp₀ bs st₀ im rc′ rp (g .state) (i + n)
-    turned-more =
+    pub turned-more : {now-state : State} → now-state ≡ next → Turned p im₀ rc₀ rp₀ bs st₀ im rc′ rp now-state (i + n)
+    turned-more is =
         let r : Ready p (length im) st rc (length rp) = t .ready in
-        subst (λ (x : State). Turned p im₀ rc₀ rp₀ bs st₀ im rc′ rp x (i + n)) (sym (k .state))
+        subst (λ (x : State). Turned p im₀ rc₀ rp₀ bs st₀ im rc′ rp x (i + n)) (sym is)
         (record {
           within = omega (arith, enough, length-drop i bs, t .within);
           ready = record { profile = r .profile; image = r .image; receive = rw kept (r .receive); reply = r .reply; fit = fits-now };
@@ -241,14 +237,19 @@ module _ {p : Profile} {im₀ rc₀ rp₀ bs : List ℕ} {st₀ : State} {im rc 
         answered : (n : ℕ) → (n ≡ 0 → ⊥) → 0 < n
         answered n f = let g : n ≡ 0 → ⊥ = f in omega arith
 
--- the bytes that a delivery begins with
-pub turned-first : {p : Profile} {im rc rp bs : List ℕ} {st : State} {g : Gathered} {rc′ : List ℕ} → Ready p (length im) st rc (length rp) → Taken st bs g rc rc′
-    → Turned p im rc rp bs st im rc′ rp (g .state) (g .taken)
-turned-first {p} {im} {rc} {rp} {bs} {st} {g} {rc′} r k =
-    let whole : take (length bs - 0) (drop 0 bs) ≡ bs = take-all (length bs - 0) (drop 0 bs) (omega arith) in
-    let n : 0 + g .taken ≡ g .taken = omega arith in
-    subst (λ (j : ℕ). Turned p im rc rp bs st im rc′ rp (g .state) j) n
-    (turned-more (turned-none p im rc rp bs st r) (subst (λ (l : List ℕ). Taken st l g rc rc′) (sym whole) k))
+-- the n bytes that a delivery begins with
+module _ (p : Profile) (im rc rp bs : List ℕ) (st : State) (n : ℕ) (rc′ : List ℕ) (r : Ready p (length im) st rc (length rp))
+    (k : Taken (st .stage) (st .held) bs n rc rc′) where
+  whole : Taken (st .stage) (st .held) (take (length bs - 0) (drop 0 bs)) n rc rc′
+  whole = subst (λ (l : List ℕ). Taken (st .stage) (st .held) l n rc rc′) (sym (take-all (length bs - 0) (drop 0 bs) (omega arith))) k
+
+  pub first-room : st .held + n ≤ length rc
+  first-room = room (turned-none p im rc rp bs st r) whole
+
+  pub turned-first : {now-state : State} → now-state ≡ held (st .held + n) st → Turned p im rc rp bs st im rc′ rp now-state n
+  turned-first {now-state} is =
+      let z : 0 + n ≡ n = omega arith in
+      subst (λ (j : ℕ). Turned p im rc rp bs st im rc′ rp now-state j) z (turned-more (turned-none p im rc rp bs st r) whole is)
 
 -- the row that was found, by its test
 pub accepted-row : (row found : Refusal) (t : Bool) → found ≡ row → t ≡ isAccepted found → t ≡ true → row ≡ Accepted

@@ -206,9 +206,11 @@ fn turns(
         if count != 0 {
             break;
         }
-        let g = gather(now_state, receive, &input[i..]);
-        now_state = g.state;
-        i += g.taken;
+        let stage = now_state.stage;
+        let held = now_state.held;
+        let taken = gather(stage, held, receive, &input[i..]);
+        now_state = holding(now_state, held + taken);
+        i += taken;
     }
     Fed {
         refusal: Refusal::Accepted,
@@ -231,9 +233,10 @@ pub(crate) fn run(
     ensures { λ r. ⌜ Ran (feedOf profile (machineOf (now (image .entry)) state (now (receive .entry))) (now (input .entry))) (now (input .entry)) r
         (now (image .exit)) (now (receive .entry)) (now (receive .exit)) (now (reply .entry)) (now (reply .exit)) ⌝ }
 {
-    let g = gather(state, receive, input);
-    let first = g.state;
-    let taken = g.taken;
+    let stage = state.stage;
+    let held = state.held;
+    let taken = gather(stage, held, receive, input);
+    let first = holding(state, held + taken);
     if input.len() <= taken {
         return Fed {
             refusal: Refusal::Accepted,

@@ -6,8 +6,8 @@ use Prim.Native.Nat.{ℕ, _+_, _-_, _≤_, _<_, min}
 use native.Mathlib.Nat.{min-le-left, min-le-right, le-min}
 use native.Mathlib.Omega.{arith}
 use lib.Dec.{ltb}
-use lib.ListN.{length, take, drop, replicate, length-append, length-drop, length-replicate, List·getD-append}
-use lib.Seq.{paste, take-append-le, drop-append-le, take-add, length-take-le}
+use lib.ListN.{length, take, drop, getD, set, replicate, length-append, length-drop, length-replicate, List·getD-append}
+use lib.Seq.{paste, take-append-le, drop-append-le, take-add, length-take-le, paste-zero, paste-suc}
 use borrow.Author.Tests.{lt-ltb, le-ltb, ltb-true, ltb-false, eq-eqb, ne-eqb, eqb-true}
 use Rattle.numbers.specs.Bytes.{numberAt}
 use Rattle.numbers.specs.declared.Number.the-variants.{Is, CutShort}
@@ -15,15 +15,14 @@ use Rattle.numbers.proofs.Copied.{part-count, pasted}
 use Rattle.packet.specs.declared.Kind.{Kind}
 use Rattle.packet.specs.declared.Kind.the-variants.{Command as CommandPacket, Data as DataPacket}
 use Rattle.packet.specs.declared.Progress.the-variants.{Partial}
-use Rattle.packet.specs.Packet.{lengthOf, permitted, progressOf}
+use Rattle.packet.specs.Packet.{lengthOf, permitted, progressOf, isPartial}
 use Rattle.packet.proofs.Laws.{length-cut, length-there, length-read}
-use Rattle.packet.proofs.Gathering.{Held, held, partial}
+use Rattle.packet.proofs.Gathering.{Held, held, partial, held-few}
 use Rattle.state.specs.declared.Stage.{Stage}
 use Rattle.state.specs.declared.Stage.the-variants.{Setting, Authentication, Command, Writing, Reading}
-use Rattle.state.specs.declared.State.{State}
-use Rattle.state.specs.Fits.{isPartial, heldFits}
+use Rattle.state.specs.Fits.{heldFits}
 use Rattle.state.proofs.FitParts.{is-partial, fit-few}
-use Rattle.gathering.specs.Gather.{lackOf, openOf, gainOf, Holds}
+use Rattle.gathering.specs.Gather.{lackOf, openOf, firstOf, gainOf, Holds}
 
 -- how many bytes are lacking before the last
 lack-short : (q : List ℕ) → length q < 3 → lackOf q ≡ 0
@@ -120,44 +119,34 @@ front-held (Writing r) q bs e = ap isPartial (front-partial DataPacket q bs (is-
 front-held (Reading r) q bs e = ap isPartial (front-partial DataPacket q bs (is-partial (progressOf DataPacket (q ++ bs)) e))
 
 -- no packet lacks more than a longest one has
-pub lack-few : (stage : Stage) (q : List ℕ) → heldFits stage q ≡ true → length q + lackOf q < 1030
-lack-few stage q e =
+pub lack-few : (kind : Kind) (q : List ℕ) → isPartial (progressOf kind q) ≡ true → length q + lackOf q < 1030
+lack-few kind q e =
     let more : List ℕ = replicate (lackOf q) 0 in
     let n : length more ≡ lackOf q = length-replicate (lackOf q) 0 in
-    omega (arith, length-append q more, n, fit-few stage (q ++ more) (still-held stage q more e (omega (arith, n))))
+    omega (arith, length-append q more, n, held-few kind (q ++ more) (partial-more kind q more (is-partial (progressOf kind q) e) (omega (arith, n))))
 
--- three bytes that begin a packet, and as many as lack of it then
-opened-held : (stage : Stage) (bs : List ℕ) (n : ℕ) → heldFits stage (take 3 bs) ≡ true → 3 ≤ n → n ≤ lackOf (take 3 bs) + 3 → n ≤ length bs
-    → heldFits stage (take n bs) ≡ true
-opened-held stage bs n e low high there =
-    let k : 3 + (n - 3) ≡ n = omega arith in
-    let rest : List ℕ = take (n - 3) (drop 3 bs) in
-    let split : take n bs ≡ take 3 bs ++ rest = sym (ap (λ (j : ℕ). take j bs) k) ∙ take-add 3 (n - 3) bs in
-    let few : n - 3 ≤ length (drop 3 bs) = omega (arith, length-drop 3 bs) in
-    let count : length rest ≡ n - 3 = length-take-le (n - 3) (drop 3 bs) few in
-    ap (heldFits stage) split ∙ still-held stage (take 3 bs) rest e (omega (arith, count))
-
--- how many can be gained, by the tests
-module _ (stage : Stage) (bs : List ℕ) where
-  pub open-few : length bs < 3 → 0 ≡ openOf stage bs
+-- how many bytes of bs can be gained, by the tests
+module _ (kind : Kind) (bs : List ℕ) where
+  pub open-few : length bs < 3 → 0 ≡ openOf kind bs
   unfolding openOf
   open-few h = simp (lt-ltb _ _ h)
 
-  pub open-none : 3 ≤ length bs → heldFits stage (take 3 bs) ≡ false → 0 ≡ openOf stage bs
+  pub open-none : 3 ≤ length bs → isPartial (progressOf kind (take 3 bs)) ≡ false → 0 ≡ openOf kind bs
   unfolding openOf
   open-none h e = simp (le-ltb _ _ h, e)
 
-  pub open-some : 3 ≤ length bs → heldFits stage (take 3 bs) ≡ true → lackOf (take 3 bs) + 3 ≡ openOf stage bs
+  pub open-some : 3 ≤ length bs → isPartial (progressOf kind (take 3 bs)) ≡ true → lackOf (take 3 bs) + 3 ≡ openOf kind bs
   unfolding openOf
   open-some h e = simp (le-ltb _ _ h, e)
 
-  pub gain-first : (q : List ℕ) → length q ≡ 0 → openOf stage bs ≡ gainOf stage q bs
+module _ (bs q : List ℕ) where
+  pub gain-more : (stage : Stage) → (length q ≡ 0 → ⊥) → lackOf q ≡ gainOf stage q bs
   unfolding gainOf
-  gain-first q e = simp (eq-eqb _ _ e)
+  gain-more stage e = simp (ne-eqb _ _ e)
 
-  pub gain-more : (q : List ℕ) → (length q ≡ 0 → ⊥) → lackOf q ≡ gainOf stage q bs
+  pub gain-first : (stage g : Stage) → stage ≡ g → length q ≡ 0 → firstOf g bs ≡ gainOf stage q bs
   unfolding gainOf
-  gain-more q e = simp (ne-eqb _ _ e)
+  gain-first stage g s e = simp (eq-eqb _ _ e, s)
 
 -- the first n bytes of bs, to rc from a place on
 module _ (rc bs : List ℕ) (at n : ℕ) (room : at + n ≤ length rc) (there : n ≤ length bs) where
@@ -173,60 +162,92 @@ module _ (rc bs : List ℕ) (at n : ℕ) (room : at + n ≤ length rc) (there : 
       → take at rc ++ (new ++ drop (at + n - at) (drop at rc)) ≡ paste rc at bs n
   placed new f = pasted at (at + n) rc room (omega arith) (take n bs) new as-many f
 
--- what is gained is held
-module _ (stage : Stage) (bs : List ℕ) (n : ℕ) where
-  none-held : (q : List ℕ) → n ≡ 0 → heldFits stage q ≡ true → heldFits stage (q ++ take n bs) ≡ true
-  none-held q z e = rw z (ap (heldFits stage) (append-nil q) ∙ e)
+-- one byte
+pub placed-one : (rc bs : List ℕ) (at n : ℕ) → n ≡ 1 → at + n ≤ length rc → n ≤ length bs → set rc at (getD bs 0 0) ≡ paste rc at bs n
+placed-one rc bs at n e room there =
+    let k : at + 0 ≡ at = omega arith in
+    ap (λ (l : List ℕ). set l at (getD bs 0 0)) (paste-zero rc at bs)
+    ∙ ap (λ (j : ℕ). set (paste rc at bs 0) j (getD bs 0 0)) (sym k)
+    ∙ paste-suc rc at bs 0 0 (omega arith) (omega arith)
+    ∙ ap (λ (j : ℕ). paste rc at bs j) (sym e)
 
-  first-held : n ≡ min (openOf stage bs) (length bs) → heldFits stage [] ≡ true → heldFits stage (take n bs) ≡ true
-  first-held e f = go (ltb (length bs) 3) refl
+-- three bytes that begin a packet, and as many as lack of it then
+module _ (kind : Kind) (bs : List ℕ) (n : ℕ) where
+  begun-partial : isPartial (progressOf kind (take 3 bs)) ≡ true → 3 ≤ n → n ≤ lackOf (take 3 bs) + 3 → n ≤ length bs
+      → isPartial (progressOf kind (take n bs)) ≡ true
+  begun-partial e low high there =
+      let k : 3 + (n - 3) ≡ n = omega arith in
+      let rest : List ℕ = take (n - 3) (drop 3 bs) in
+      let split : take n bs ≡ take 3 bs ++ rest = sym (ap (λ (j : ℕ). take j bs) k) ∙ take-add 3 (n - 3) bs in
+      let few : n - 3 ≤ length (drop 3 bs) = omega (arith, length-drop 3 bs) in
+      let count : length rest ≡ n - 3 = length-take-le (n - 3) (drop 3 bs) few in
+      ap (λ (l : List ℕ). isPartial (progressOf kind l)) split ∙ still-partial kind (take 3 bs) rest e (omega (arith, count))
+
+  opened-partial : n ≡ min (openOf kind bs) (length bs) → isPartial (progressOf kind []) ≡ true → isPartial (progressOf kind (take n bs)) ≡ true
+  opened-partial e f = go (ltb (length bs) 3) refl
     where
-      below : n ≤ openOf stage bs
-      below = let h : min (openOf stage bs) (length bs) ≤ openOf stage bs = min-le-left _ _ in omega arith
+      below : n ≤ openOf kind bs
+      below = let h : min (openOf kind bs) (length bs) ≤ openOf kind bs = min-le-left _ _ in omega arith
 
       there : n ≤ length bs
-      there = let h : min (openOf stage bs) (length bs) ≤ length bs = min-le-right _ _ in omega arith
+      there = let h : min (openOf kind bs) (length bs) ≤ length bs = min-le-right _ _ in omega arith
 
-      begun : 3 ≤ length bs → (t : Bool) → heldFits stage (take 3 bs) ≡ t → heldFits stage (take n bs) ≡ true
-      begun long false g = none-held [] (omega (arith, below, open-none stage bs long g)) f
+      none : n ≡ 0 → isPartial (progressOf kind (take n bs)) ≡ true
+      none z = rw z f
+
+      begun : 3 ≤ length bs → (t : Bool) → isPartial (progressOf kind (take 3 bs)) ≡ t → isPartial (progressOf kind (take n bs)) ≡ true
+      begun long false g = none (omega (arith, below, open-none kind bs long g))
       begun long true g =
-          let o : lackOf (take 3 bs) + 3 ≡ openOf stage bs = open-some stage bs long g in
-          let low : 3 ≤ min (openOf stage bs) (length bs) = le-min (omega (arith, o)) long in
-          opened-held stage bs n g (omega arith) (omega (arith, o, below)) there
+          let o : lackOf (take 3 bs) + 3 ≡ openOf kind bs = open-some kind bs long g in
+          let low : 3 ≤ min (openOf kind bs) (length bs) = le-min (omega (arith, o)) long in
+          begun-partial g (omega arith) (omega (arith, o, below)) there
 
-      go : (t : Bool) → ltb (length bs) 3 ≡ t → heldFits stage (take n bs) ≡ true
-      go true g = none-held [] (omega (arith, below, open-few stage bs (ltb-true (length bs) 3 g))) f
-      go false g = begun (ltb-false (length bs) 3 g) (heldFits stage (take 3 bs)) refl
+      go : (t : Bool) → ltb (length bs) 3 ≡ t → isPartial (progressOf kind (take n bs)) ≡ true
+      go true g = none (omega (arith, below, open-few kind bs (ltb-true (length bs) 3 g)))
+      go false g = begun (ltb-false (length bs) 3 g) (isPartial (progressOf kind (take 3 bs))) refl
 
-  gained-held : (q : List ℕ) → n ≡ min (gainOf stage q bs) (length bs) → heldFits stage q ≡ true → heldFits stage (q ++ take n bs) ≡ true
-  gained-held [] e f = first-held (e ∙ ap (λ (k : ℕ). min k (length bs)) (sym (gain-first stage bs [] refl))) f
-  gained-held (x ∷ q) e f =
+-- what is gained is held
+module _ (bs : List ℕ) (n : ℕ) where
+  first-held : (stage : Stage) → n ≡ min (firstOf stage bs) (length bs) → heldFits stage [] ≡ true → heldFits stage (take n bs) ≡ true
+  unfolding heldFits firstOf
+  first-held (Setting u) e f =
+      let h : min 0 (length bs) ≤ 0 = min-le-left _ _ in
+      let z : n ≡ 0 = omega arith in
+      rw z f
+  first-held Authentication e f = opened-partial CommandPacket bs n e f
+  first-held Command e f = opened-partial CommandPacket bs n e f
+  first-held (Writing r) e f = opened-partial DataPacket bs n e f
+  first-held (Reading r) e f = opened-partial DataPacket bs n e f
+
+  gained-held : (stage : Stage) (q : List ℕ) → n ≡ min (gainOf stage q bs) (length bs) → heldFits stage q ≡ true → heldFits stage (q ++ take n bs) ≡ true
+  gained-held stage [] e f = first-held stage (e ∙ ap (λ (k : ℕ). min k (length bs)) (sym (gain-first bs [] stage stage refl refl))) f
+  gained-held stage (x ∷ q) e f =
       let some : length (x ∷ q) ≡ 0 → ⊥ = λ z. omega arith in
-      let g : lackOf (x ∷ q) ≡ gainOf stage (x ∷ q) bs = gain-more stage bs (x ∷ q) some in
+      let g : lackOf (x ∷ q) ≡ gainOf stage (x ∷ q) bs = gain-more bs (x ∷ q) stage some in
       let low : min (gainOf stage (x ∷ q) bs) (length bs) ≤ gainOf stage (x ∷ q) bs = min-le-left _ _ in
       let high : min (gainOf stage (x ∷ q) bs) (length bs) ≤ length bs = min-le-right _ _ in
       let count : length (take n bs) ≡ n = length-take-le n bs (omega arith) in
       still-held stage (x ∷ q) (take n bs) f (omega (arith, count, g, low))
 
 -- n bytes of bs are taken
-module _ (st : State) (rc bs : List ℕ) (holds : Holds st rc) (n : ℕ) (e : n ≡ min (gainOf (st .stage) (take (st .held) rc) bs) (length bs)) where
+module _ (stage : Stage) (at : ℕ) (rc bs : List ℕ) (holds : Holds stage at rc) (n : ℕ) (e : n ≡ min (gainOf stage (take at rc) bs) (length bs)) where
   abbrev q : List ℕ
-  q = take (st .held) rc
+  q = take at rc
 
   pub taken-there : n ≤ length bs
-  taken-there = let h : min (gainOf (st .stage) q bs) (length bs) ≤ length bs = min-le-right _ _ in omega arith
+  taken-there = let h : min (gainOf stage q bs) (length bs) ≤ length bs = min-le-right _ _ in omega arith
 
-  pub held-count : length q ≡ st .held
-  held-count = length-take-le (st .held) rc (holds .inside)
+  pub held-count : length q ≡ at
+  held-count = length-take-le at rc (holds .inside)
 
   pub taken-count : length (take n bs) ≡ n
   taken-count = length-take-le n bs taken-there
 
-  pub taken-held : heldFits (st .stage) (q ++ take n bs) ≡ true
-  taken-held = gained-held (st .stage) bs n q e (holds .fits)
+  pub taken-held : heldFits stage (q ++ take n bs) ≡ true
+  taken-held = gained-held bs n stage q e (holds .fits)
 
   -- a buffer for a longest packet has room for them
-  pub taken-room : st .held + n ≤ length rc
+  pub taken-room : at + n ≤ length rc
   taken-room =
-      let f : length (q ++ take n bs) < 1030 = fit-few (st .stage) (q ++ take n bs) taken-held in
+      let f : length (q ++ take n bs) < 1030 = fit-few stage (q ++ take n bs) taken-held in
       omega (arith, length-append q (take n bs), held-count, taken-count, holds .room)

@@ -6,14 +6,9 @@ ghost use lib.Seq.{paste};
 ghost use Rattle.gathering.specs.Gather.{held, lackOf, openOf, gainOf, Holds, Taken};
 use numbers::Number;
 use numbers::lower;
+use packet::Kind;
 use state::Stage;
 use state::State;
-
-// What taking bytes that only add to a packet leads to, and how many they are.
-pub struct Gathered {
-    pub state: State,
-    pub taken: usize,
-}
 
 // The state with this many bytes held.
 pub fn holding(state: State, count: usize) -> State
@@ -30,11 +25,15 @@ pub fn holding(state: State, count: usize) -> State
     }
 }
 
-// The first `count` bytes of `from`, to `receive` from `at` on.
+// The first `count` bytes of `from`, to `receive` from `at` on. A serial line brings one at a time, which needs no loop.
 fn place(receive: &mut [u8], at: usize, from: &[u8], count: usize)
     requires { ⌜ (at + count ≤ length (now receive)) × (count ≤ length (now from)) ⌝ }
     ensures { λ _. ⌜ now (receive .exit) ≡ paste (now (receive .entry)) at (now (from .entry)) count ⌝ }
 {
+    if count == 1 {
+        receive[at] = from[0];
+        return;
+    }
     let end = at + count;
     bytes::copy(&from[..count], &mut receive[at..end]);
 }
@@ -56,40 +55,41 @@ fn lacking(packet: &[u8]) -> usize
     }
 }
 
-// How many bytes of input can come before the last of the packet that they begin; none where they begin none.
-fn opening(stage: Stage, input: &[u8]) -> usize
-    ensures { λ r. ⌜ r ≡ openOf stage (now (input .entry)) ⌝ }
+// How many bytes of input can come before the last of the packet of the kind that they begin; none where they begin none.
+fn opening(kind: Kind, input: &[u8]) -> usize
+    ensures { λ r. ⌜ r ≡ openOf kind (now (input .entry)) ⌝ }
 {
     if input.len() < 3 {
         return 0;
     }
-    if !state::held_fits(stage, &input[..3]) {
+    if !packet::waits(&input[..3], kind) {
         return 0;
     }
     lacking(&input[..3]) + 3
 }
 
-// The same behind the bytes that are held.
+// How many can come behind the bytes that are held; where none are, by what the stage awaits.
 fn gain(stage: Stage, held: &[u8], input: &[u8]) -> usize
     ensures { λ r. ⌜ r ≡ gainOf stage (now (held .entry)) (now (input .entry)) ⌝ }
 {
-    if held.len() == 0 {
-        return opening(stage, input);
+    if held.len() != 0 {
+        return lacking(held);
     }
-    lacking(held)
+    match stage {
+        Stage::Setting(_) => 0,
+        Stage::Authentication => opening(Kind::Command, input),
+        Stage::Command => opening(Kind::Command, input),
+        Stage::Writing(_) => opening(Kind::Data, input),
+        Stage::Reading(_) => opening(Kind::Data, input),
+    }
 }
 
-// As many bytes of input as can come before the packet's last, behind those that are held. In setting none are held.
-pub fn gather(state: State, receive: &mut [u8], input: &[u8]) -> Gathered
-    requires { ⌜ Holds state (now receive) ⌝ }
-    ensures { λ r. ⌜ Taken state (now (input .entry)) r (now (receive .entry)) (now (receive .exit)) ⌝ }
+// As many bytes of input as can come before the packet's last, put behind the `held` ones; how many they are.
+pub fn gather(stage: Stage, held: usize, receive: &mut [u8], input: &[u8]) -> usize
+    requires { ⌜ Holds stage held (now receive) ⌝ }
+    ensures { λ r. ⌜ Taken stage held (now (input .entry)) r (now (receive .entry)) (now (receive .exit)) ⌝ }
 {
-    let at = state.held;
-    let stage = state.stage;
-    let taken = lower(gain(stage, &receive[..at], input), input.len());
-    place(receive, at, input, taken);
-    Gathered {
-        state: holding(state, at + taken),
-        taken,
-    }
+    let taken = lower(gain(stage, &receive[..held], input), input.len());
+    place(receive, held, input, taken);
+    taken
 }

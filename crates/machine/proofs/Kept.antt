@@ -16,13 +16,13 @@ use Rattle.packet.specs.declared.Kind.{Kind}
 use Rattle.packet.specs.declared.Kind.the-variants.{Command as CommandPacket, Data as DataPacket}
 use Rattle.packet.specs.declared.Progress.{Progress}
 use Rattle.packet.specs.declared.Progress.the-variants.{Astray, Partial, Unfit, Complete, Excess}
-use Rattle.packet.specs.Packet.{progressOf}
+use Rattle.packet.specs.Packet.{progressOf, isPartial}
 use Rattle.state.specs.declared.Pulse.the-variants.{Zero}
 use Rattle.state.specs.declared.Stage.{Stage}
 use Rattle.state.specs.declared.Stage.the-variants.{Setting, Authentication, Command, Writing, Reading}
 use Rattle.state.specs.declared.State.{State}
 use Rattle.state.specs.State.{freshState, windowOf}
-use Rattle.state.specs.Fits.{isPartial, heldFits, stageFits}
+use Rattle.state.specs.Fits.{heldFits, stageFits}
 use Rattle.state.specs.Fit.{Fit}
 use Rattle.state.proofs.FitParts.{fit-few}
 use Rattle.answer.specs.Answer.{Answer}

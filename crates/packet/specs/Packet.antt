@@ -62,6 +62,13 @@ endingChecks q =
     ∷ (not (eqb (totalOf (summed q) % 256) 0) gives WrongSum)
     ∷ []
 
+abbrev pub isPartial : Progress → Bool
+isPartial Astray = false
+isPartial Partial = true
+isPartial Unfit = false
+isPartial Complete = false
+isPartial Excess = false
+
 abbrev pub isComplete : Progress → Bool
 isComplete Astray = false
 isComplete Partial = false

@@ -2,7 +2,7 @@
 ghost use mathlib.Core.Path.{_≡_};
 ghost use Prim.Native.Nat.{_%_};
 ghost use Rattle.verdict.specs.Check.{firstFault, verdictOf};
-ghost use Rattle.packet.specs.Packet.{startOf, totalOf, permitted, measuredOf, progressOf, endingChecks, isComplete, endsWell, good, payloadOf};
+ghost use Rattle.packet.specs.Packet.{startOf, totalOf, permitted, measuredOf, progressOf, endingChecks, isPartial, isComplete, endsWell, good, payloadOf};
 use numbers::Number;
 use verdict::Reason;
 use verdict::Verdict;
@@ -81,6 +81,20 @@ pub fn gathered(s: &[u8], kind: Kind) -> Progress
     match length {
         Number::CutShort => Progress::Partial,
         Number::Is(n) => measured(kind, s.len(), n as usize),
+    }
+}
+
+// Whether the bytes of s are an incomplete packet of the kind.
+pub fn waits(s: &[u8], kind: Kind) -> bool
+    ensures { λ r. ⌜ r ≡ isPartial (progressOf kind (now (s .entry))) ⌝ }
+{
+    let progress = gathered(s, kind);
+    match progress {
+        Progress::Astray => false,
+        Progress::Partial => true,
+        Progress::Unfit => false,
+        Progress::Complete => false,
+        Progress::Excess => false,
     }
 }
 

@@ -14,14 +14,14 @@ use Rattle.packet.specs.declared.Kind.{Kind}
 use Rattle.packet.specs.declared.Kind.the-variants.{Command as CommandPacket, Data as DataPacket}
 use Rattle.packet.specs.declared.Progress.{Progress}
 use Rattle.packet.specs.declared.Progress.the-variants.{Astray, Partial, Unfit, Complete, Excess}
-use Rattle.packet.specs.Packet.{progressOf}
+use Rattle.packet.specs.Packet.{progressOf, isPartial}
 use Rattle.packet.proofs.Laws.{impossible, both}
 use Rattle.packet.proofs.Gathering.{held-few}
 use Rattle.state.specs.declared.Stage.{Stage}
 use Rattle.state.specs.declared.Stage.the-variants.{Setting, Authentication, Command, Writing, Reading}
 use Rattle.state.specs.declared.State.{State}
 use Rattle.state.specs.State.{windowOf}
-use Rattle.state.specs.Fits.{isPartial, heldFits, stageFits, fitsOf}
+use Rattle.state.specs.Fits.{heldFits, stageFits, fitsOf}
 use Rattle.state.specs.Fit.{Fit}
 
 module _ (p : Profile) (st : State) (receive : List ℕ) where

@@ -15,22 +15,13 @@ use Rattle.ranges.specs.Ranges.{rangeChecks}
 pub use Rattle.ranges.specs.Ranges.{passes}
 use Rattle.packet.specs.declared.Kind.{Kind}
 use Rattle.packet.specs.declared.Kind.the-variants.{Command as CommandPacket, Data as DataPacket}
-use Rattle.packet.specs.declared.Progress.{Progress}
-use Rattle.packet.specs.declared.Progress.the-variants.{Astray, Partial, Unfit, Complete, Excess}
-use Rattle.packet.specs.Packet.{progressOf}
+use Rattle.packet.specs.Packet.{progressOf, isPartial}
 use Rattle.state.specs.declared.Pulse.{Pulse}
 use Rattle.state.specs.declared.Range.{Range}
 use Rattle.state.specs.declared.Stage.{Stage}
 use Rattle.state.specs.declared.Stage.the-variants.{Setting, Authentication, Command, Writing, Reading}
 use Rattle.state.specs.declared.State.{State}
 use Rattle.state.specs.State.{windowOf}
-
-abbrev pub isPartial : Progress → Bool
-isPartial Astray = false
-isPartial Partial = true
-isPartial Unfit = false
-isPartial Complete = false
-isPartial Excess = false
 
 -- a range with at least one byte left, of addresses of 32 bits, that the purpose permits
 unfoldable pub rangeFits : List Area → Window → Purpose → Range → Bool

@@ -1,34 +1,19 @@
 // Whether a state fits the profile and the receive buffer.
 ghost use mathlib.Core.Path.{_≡_};
 ghost use Rattle.profile.specs.Areas.{areasOf};
-ghost use Rattle.packet.specs.Packet.{progressOf};
-ghost use Rattle.state.specs.Fits.{isPartial, rangeFits, heldFits, stageFits, fitsOf};
+ghost use Rattle.state.specs.Fits.{rangeFits, heldFits, stageFits, fitsOf};
 use crate::Range;
 use crate::Stage;
 use crate::State;
 use packet::Kind;
-use packet::Progress;
+use packet::waits;
 use profile::Place;
 use profile::Profile;
 use profile::Window;
 use ranges::Purpose;
 
-// Whether the bytes are an incomplete packet of the kind.
-fn waits(held: &[u8], kind: Kind) -> bool
-    ensures { λ r. ⌜ r ≡ isPartial (progressOf kind (now (held .entry))) ⌝ }
-{
-    let progress = packet::gathered(held, kind);
-    match progress {
-        Progress::Astray => false,
-        Progress::Partial => true,
-        Progress::Unfit => false,
-        Progress::Complete => false,
-        Progress::Excess => false,
-    }
-}
-
 // Whether held bytes may await their rest in the stage.
-pub fn held_fits(stage: Stage, held: &[u8]) -> bool
+fn held_fits(stage: Stage, held: &[u8]) -> bool
     ensures { λ r. ⌜ r ≡ heldFits stage (now (held .entry)) ⌝ }
 {
     match stage {

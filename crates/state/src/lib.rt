@@ -5,7 +5,6 @@ ghost use mathlib.Core.Path.{_≡_};
 ghost use Rattle.state.specs.State.{freshState};
 use baud::LineSetting;
 pub use fitting::fits;
-pub use fitting::held_fits;
 use profile::Profile;
 
 // How far waking up has come.

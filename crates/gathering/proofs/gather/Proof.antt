@@ -13,7 +13,7 @@ slice-reshare-prefix-gain : tie.Need-slice-reshare-prefix-gain
 slice-reshare-prefix-gain c = search needs
 
 slice-aggregate-gain : tie.Need-slice-aggregate-gain
-slice-aggregate-gain c = sym (length-take-le (c .before .before .before .args .state .held) (c .before .before .before .args .receive .now) (c .before .before .before .pre .inside))
+slice-aggregate-gain c = sym (length-take-le (c .before .before .before .args .held) (c .before .before .before .args .receive .now) (c .before .before .before .pre .inside))
 
 gain-requires : tie.Need-gain-requires
 gain-requires c κs = search needs
@@ -24,13 +24,7 @@ lower-requires c κs = search needs
 place-requires : tie.Need-place-requires
 place-requires c κs = let a = c .before .before .before .before .before .before .args in
     let e = c .before .lower .ensures ∙ ap (λ (k : ℕ). min k (length (a .input .now))) (c .before .before .gain .ensures) in
-    (omega (arith, taken-room (a .state) (a .receive .now) (a .input .now) (c .before .before .before .before .before .before .pre) (c .before .lower .result) e), taken-there (a .state) (a .receive .now) (a .input .now) (c .before .before .before .before .before .before .pre) (c .before .lower .result) e)
-
-add-holding : tie.Need-add-holding
-add-holding c = search needs
-
-holding-requires : tie.Need-holding-requires
-holding-requires c κs = search needs
+    (omega (arith, taken-room (a .stage) (a .held) (a .receive .now) (a .input .now) (c .before .before .before .before .before .before .pre) (c .before .lower .result) e), taken-there (a .stage) (a .held) (a .receive .now) (a .input .now) (c .before .before .before .before .before .before .pre) (c .before .lower .result) e)
 
 same-length : tie.Need-same-length
 same-length c = search needs
@@ -47,7 +41,5 @@ gather-spec =
     gain-requires
     lower-requires
     place-requires
-    add-holding
-    holding-requires
     same-length
     returns)

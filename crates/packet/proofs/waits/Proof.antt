@@ -1,9 +1,9 @@
--- `state::fitting::waits` meets its contract. Each answer of the gathering is one case. Assumes nothing.
+-- `packet::waits` meets its contract. Each answer of the gathering is one case. Assumes nothing.
 use mathlib.Core.Path.{sym, ap, _∙_}
-use Rattle.state.specs.Fits.{isPartial}
+use Rattle.packet.specs.Packet.{isPartial}
 use borrow.Author.Needs.{needs}
-use Rattle.state.proofs.fitting.waits.Statement.{statement}
-use Rattle.state.proofs.fitting.waits.Tie as tie
+use Rattle.packet.proofs.waits.Statement.{statement}
+use Rattle.packet.proofs.waits.Tie as tie
 
 gathered-requires : tie.Need-gathered-requires
 gathered-requires c κs = search needs
