@@ -3,12 +3,16 @@
 /// The kind of an area; its numbers are the protocol's.
 #[derive(Clone, Copy, Debug, PartialEq, Eq)]
 pub enum Kind {
+    /// 0: program flash, where the window applies.
     User,
+    /// 1: data flash.
     Data,
+    /// 2: configuration; it starts with the ID code.
     Config,
 }
 
 impl Kind {
+    /// KOA, its number in the protocol.
     pub fn number(self) -> u8 {
         match self {
             Kind::User => 0,
@@ -21,10 +25,15 @@ impl Kind {
 /// An area of the flash: addresses `sad` to `ead`, both inclusive; units in bytes, 0 for none.
 #[derive(Clone, Copy, Debug, PartialEq, Eq)]
 pub struct Area {
+    /// KOA.
     pub kind: Kind,
+    /// The first address.
     pub sad: u32,
+    /// The last address.
     pub ead: u32,
+    /// The erase unit; 0 if it cannot be erased.
     pub eau: u32,
+    /// The write unit; 0 if it cannot be written.
     pub wau: u32,
 }
 
@@ -38,17 +47,25 @@ impl Area {
 /// What a device is: its areas and the numbers of its signature. Which profiles are acceptable is the library's to say.
 #[derive(Clone, Debug, PartialEq, Eq)]
 pub struct Profile {
+    /// In ascending order; the image is their bytes joined in this order.
     pub areas: Vec<Area>,
+    /// The clock of the line, in Hz.
     pub sci: u32,
+    /// The highest baud rate.
     pub rmb: u32,
+    /// TYP of the signature.
     pub typ: u8,
+    /// BFV of the signature, its first byte high.
     pub bfv: u16,
     /// Erase and write in user areas stay at or above `low` and below `high`; equal numbers are no limit.
     pub low: u32,
+    /// The window's end: the first address that is not in it.
     pub high: u32,
 }
 
+/// How many bytes the library takes a profile in; `include/indraveck.h` says what stands where.
 pub const PROFILE_BYTES: usize = 156;
+/// How many areas a profile has room for.
 pub const AREAS: usize = 8;
 
 impl Profile {

@@ -1,5 +1,21 @@
 //! The five functions of `include/indraveck.h` on slices. Each takes any slices: what is wrong is refused with its number, and
 //! nothing but the slices is read or written. That is proved of the library, so the calls are safe.
+//!
+//! The header says what stands where in the bytes of a profile and of a state, and what has to be kept between two feeds.
+//!
+//! ```
+//! use indraveck::{raw, Profile, BUFFER_BYTES, STATE_BYTES};
+//!
+//! let profile = Profile::bench();
+//! let mut image = vec![0xFF; profile.total() as usize];
+//! let profile = profile.to_bytes().unwrap();
+//! let mut state = [0; STATE_BYTES];
+//! let (mut receive, mut reply) = ([0; BUFFER_BYTES], [0; BUFFER_BYTES]);
+//! assert_eq!(raw::start(&profile, &image, &mut state), 0);
+//! let fed = raw::feed(&profile, &mut image, &mut state, &mut receive, &mut reply, &[0x00, 0x00, 0x55]);
+//! assert_eq!((fed.refusal, fed.consumed, fed.count), (0, 2, 1));
+//! assert_eq!(reply[0], 0x00);
+//! ```
 
 extern "C" {
     fn indraveck_start(
@@ -55,11 +71,16 @@ extern "C" {
 /// The number of the refusal, 0 for accepted, and what a feed consumed and answered.
 #[derive(Clone, Copy, Debug, PartialEq, Eq)]
 pub struct Fed {
+    /// The number of the refusal, 0 for accepted; [`Refusal::check`](crate::Refusal::check) has it in words.
     pub refusal: u32,
+    /// How many bytes of the input were consumed.
     pub consumed: usize,
+    /// How long the reply at the front of the reply buffer is, 0 if there is none.
     pub count: usize,
 }
 
+/// Writes a fresh state, and answers the number of the refusal, 0 for accepted. A refused start writes zeros, unless the state's length
+/// is wrong: then it is left.
 #[inline]
 pub fn start(profile: &[u8], image: &[u8], state: &mut [u8]) -> u32 {
     unsafe {
@@ -74,6 +95,7 @@ pub fn start(profile: &[u8], image: &[u8], state: &mut [u8]) -> u32 {
     }
 }
 
+/// Writes a fresh state, whatever the bytes were, and answers the number of the refusal, 0 for accepted. A refused reset leaves them.
 #[inline]
 pub fn reset(profile: &[u8], image: &[u8], state: &mut [u8]) -> u32 {
     unsafe {
@@ -88,6 +110,7 @@ pub fn reset(profile: &[u8], image: &[u8], state: &mut [u8]) -> u32 {
     }
 }
 
+/// Feeds bytes up to the one that completes the first reply. A refused feed changes nothing.
 #[inline]
 pub fn feed(
     profile: &[u8],
@@ -146,7 +169,7 @@ pub fn payload(receive: &[u8], count: usize) -> Option<std::ops::Range<usize>> {
     Some(start..start + length as usize)
 }
 
-/// The number of the refusal, 0 for accepted, and how many of the recording's bytes could be read.
+/// Replays a recorded line on the image: the number of the refusal, 0 for accepted, and how many of the recording's bytes could be read.
 #[inline]
 pub fn replay(profile: &[u8], image: &mut [u8], recording: &[u8]) -> (u32, usize) {
     let mut read = 0;

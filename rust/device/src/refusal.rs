@@ -6,15 +6,15 @@ use std::fmt;
 /// A refused call. There is no case for an accepted one: nothing here means OK by default.
 #[derive(Clone, Copy, Debug, PartialEq, Eq)]
 pub enum Refusal {
-    /// 4
+    /// 4: the profile is not acceptable; [`Profile::broken_rules`](crate::Profile::broken_rules) says why.
     UnacceptableProfile,
-    /// 1
+    /// 1: the image is not as long as the profile's areas together.
     WrongImageLength,
-    /// 5
+    /// 5: the state does not fit the profile and the bytes held, or is no state.
     UnfitState,
-    /// 2
+    /// 2: the receive buffer has fewer than 1,030 bytes.
     ShortReceiveBuffer,
-    /// 3
+    /// 3: the reply buffer has fewer than 1,030 bytes.
     ShortReplyBuffer,
 }
 
@@ -36,6 +36,7 @@ impl Refusal {
         }
     }
 
+    /// Its number in document 01 and in `include/indraveck.h`.
     pub fn number(self) -> u32 {
         match self {
             Refusal::WrongImageLength => 1,
@@ -61,3 +62,34 @@ impl fmt::Display for Refusal {
 }
 
 impl Error for Refusal {}
+
+/// A start or a resumption that was refused, with the image that was lent for it.
+pub struct StartError<I> {
+    /// Why.
+    pub refusal: Refusal,
+    /// The image, as it was.
+    pub image: I,
+}
+
+impl<I> StartError<I> {
+    pub(crate) fn new(refusal: Refusal, image: I) -> StartError<I> {
+        StartError { refusal, image }
+    }
+}
+
+/// Without the image: it is as large as the flash.
+impl<I> fmt::Debug for StartError<I> {
+    fn fmt(&self, f: &mut fmt::Formatter) -> fmt::Result {
+        f.debug_struct("StartError")
+            .field("refusal", &self.refusal)
+            .finish_non_exhaustive()
+    }
+}
+
+impl<I> fmt::Display for StartError<I> {
+    fn fmt(&self, f: &mut fmt::Formatter) -> fmt::Result {
+        self.refusal.fmt(f)
+    }
+}
+
+impl<I> Error for StartError<I> {}

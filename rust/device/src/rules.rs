@@ -13,43 +13,69 @@ const ID_BYTES: u64 = 16;
 /// A rule that a profile breaks; areas are numbered from 0, as in the protocol.
 #[derive(Clone, Copy, Debug, PartialEq, Eq)]
 pub enum Rule {
+    /// It has no area, or more than eight.
     AreaCount {
+        /// How many it has.
         noa: usize,
     },
+    /// SCI is 0.
     NoClock,
+    /// RMB is 0.
     NoTopRate,
+    /// EAD lies below SAD.
     EndsBeforeStart {
+        /// The area's number.
         area: usize,
     },
+    /// EAD is FFFFFFFFh.
     EndsAtTop {
+        /// The area's number.
         area: usize,
     },
     /// It does not lie above the area before it.
     NotAbove {
+        /// The area's number.
         area: usize,
     },
+    /// EAU does not divide SAD and the area's size.
     EraseUnit {
+        /// The area's number.
         area: usize,
+        /// The unit, in bytes.
         unit: u32,
     },
+    /// WAU does not divide SAD and the area's size.
     WriteUnit {
+        /// The area's number.
         area: usize,
+        /// The unit, in bytes.
         unit: u32,
     },
+    /// WAU is above 1,024.
     LongWriteUnit {
+        /// The area's number.
         area: usize,
+        /// The unit, in bytes.
         unit: u32,
     },
+    /// There is not exactly one config area.
     ConfigCount {
+        /// How many there are.
         configs: usize,
     },
+    /// The config area has no room for the ID code.
     ConfigSize {
+        /// The area's number.
         area: usize,
+        /// Its size in bytes.
         size: u64,
     },
+    /// The areas have more than 16,777,216 bytes together.
     TooLarge {
+        /// How many they have.
         total: u64,
     },
+    /// Low lies above high.
     WindowReversed,
 }
 
@@ -114,6 +140,14 @@ impl fmt::Display for Rule {
 
 impl Profile {
     /// All the rules that it breaks, in document 01's order; none if it is acceptable.
+    ///
+    /// ```
+    /// use indraveck::{Profile, Rule};
+    ///
+    /// let no_clock = Profile { sci: 0, ..Profile::bench() };
+    /// assert_eq!(no_clock.broken_rules(), [Rule::NoClock]);
+    /// assert_eq!(Rule::NoClock.to_string(), "sci is 0: it has to be at least 1");
+    /// ```
     pub fn broken_rules(&self) -> Vec<Rule> {
         let mut broken = Vec::new();
         let noa = self.areas.len();
