@@ -6,6 +6,7 @@ use std::fmt;
 pub struct Failure {
     wrong: String,
     advice: String,
+    told: bool,
 }
 
 pub type Outcome<T> = Result<T, Failure>;
@@ -15,7 +16,25 @@ impl Failure {
         Failure {
             wrong: wrong.into(),
             advice: advice.into(),
+            told: false,
         }
+    }
+
+    pub fn wrong(&self) -> &str {
+        &self.wrong
+    }
+
+    pub fn advice(&self) -> &str {
+        &self.advice
+    }
+
+    /// It stands in a log on standard error already.
+    pub fn told(self) -> Failure {
+        Failure { told: true, ..self }
+    }
+
+    pub fn is_told(&self) -> bool {
+        self.told
     }
 }
 

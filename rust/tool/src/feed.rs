@@ -1,14 +1,22 @@
 //! `indraveck feed`: bytes on standard input, replies on standard output.
 
-use crate::cli::Target;
+use crate::cli::Feed;
 use crate::failure::{Explain, Outcome};
+use crate::log::Log;
 use crate::signals;
 use crate::stand_in::StandIn;
 use std::io::{self, Read, Write};
 
-pub fn run(target: &Target) -> Outcome<()> {
+pub fn run(arguments: &Feed) -> Outcome<()> {
     signals::watch_the_map()?;
-    let mut stand_in = StandIn::start(target)?;
+    let mut stand_in = StandIn::start(&arguments.target, Log::open(&arguments.logging)?)?;
+    let done = answer(&mut stand_in);
+    stand_in.tell_silence();
+    stand_in.log.finish();
+    done.map_err(|failure| stand_in.log.failed(failure))
+}
+
+fn answer(stand_in: &mut StandIn) -> Outcome<()> {
     let mut input = [0; 65536];
     let mut replies = Vec::new();
     loop {

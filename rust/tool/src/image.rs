@@ -3,11 +3,13 @@
 use crate::failure::{Explain, Failure, Outcome};
 use crate::number;
 use crate::profile_file::Named;
+use crate::text::shown;
 use memmap2::MmapMut;
 use nix::errno::Errno;
 use nix::fcntl::{flock, posix_fallocate, FlockArg};
 use std::fs::{self, File, OpenOptions};
-use std::io::{self, Write};
+use std::io::{self, Read, Write};
+use std::os::unix::fs::MetadataExt;
 use std::os::unix::io::AsRawFd;
 use std::path::{Path, PathBuf};
 
@@ -20,7 +22,7 @@ pub struct ImageFile {
     map: MmapMut,
     path: PathBuf,
     // keeps the lock
-    _file: File,
+    file: File,
 }
 
 impl ImageFile {
@@ -32,52 +34,56 @@ impl ImageFile {
             .write(true)
             .open(path)
             .explain(
-                || format!("the image {} cannot be opened", path.display()),
+                || format!("the image {} cannot be opened", shown(path)),
                 "give an image file that may be read and written; a blank one is made by `indraveck image new`, or by `--create` here",
             )?;
-        match flock(file.as_raw_fd(), FlockArg::LockExclusiveNonblock) {
-            Ok(()) => {}
-            Err(Errno::EWOULDBLOCK) => {
-                return Err(Failure::new(
-                    format!("the image {} is in use by another stand-in", path.display()),
-                    "end that one first, or give each its own image",
-                ))
-            }
-            Err(error) => {
-                return Err(error).explain(
-                    || format!("the image {} cannot be locked", path.display()),
-                    "keep images on a disk of this machine",
-                )
-            }
-        }
+        lock(&file, path)?;
         let length = file
             .metadata()
             .explain(
-                || format!("the length of {} cannot be read", path.display()),
+                || format!("the length of {} cannot be read", shown(path)),
                 "look at the disk it is on",
             )?
             .len();
         check_length(path, length, named)?;
         allocate(&file, length).explain(
-            || format!("there is no room for the image {}", path.display()),
+            || format!("there is no room for the image {}", shown(path)),
             FULL,
         )?;
         // The lock keeps other stand-ins out; a program that cuts the file short while it is mapped ends this one (see signals).
         let map = unsafe { MmapMut::map_mut(&file) }.explain(
-            || format!("the image {} cannot be mapped", path.display()),
+            || format!("the image {} cannot be mapped", shown(path)),
             "keep images on a disk of this machine, as plain files",
         )?;
         Ok(ImageFile {
             map,
             path: path.to_path_buf(),
-            _file: file,
+            file,
         })
+    }
+
+    /// Whether it is still the file of its name, with all its bytes: what is stored in a file without a name is lost.
+    pub fn check(&self) -> Outcome<()> {
+        let wrong = match (self.file.metadata(), fs::metadata(&self.path)) {
+            (Ok(held), _) if held.len() != self.map.len() as u64 => {
+                "was cut short by another program"
+            }
+            (Ok(held), Ok(named)) if (held.dev(), held.ino()) == (named.dev(), named.ino()) => {
+                return Ok(())
+            }
+            (_, Ok(_)) => "was replaced by another program",
+            (_, Err(_)) => "was removed or renamed by another program",
+        };
+        Err(Failure::new(
+            format!("the image {} {} while it was in use", shown(&self.path), wrong),
+            "put it back and start again; the last request was not answered, so do not count it as done",
+        ))
     }
 
     /// Waits until what was stored is on the disk.
     pub fn sync(&self) -> Outcome<()> {
         self.map.flush().explain(
-            || format!("the image {} could not be written", self.path.display()),
+            || format!("the image {} could not be written", shown(&self.path)),
             "look at its disk; the answer to the last request was not sent, so do not count it as done",
         )
     }
@@ -95,6 +101,21 @@ impl AsMut<[u8]> for ImageFile {
     }
 }
 
+/// One stand-in at a time.
+fn lock(file: &File, path: &Path) -> Outcome<()> {
+    match flock(file.as_raw_fd(), FlockArg::LockExclusiveNonblock) {
+        Ok(()) => Ok(()),
+        Err(Errno::EWOULDBLOCK) => Err(Failure::new(
+            format!("the image {} is in use by another stand-in", shown(path)),
+            "end that one first, or give each its own image",
+        )),
+        Err(error) => Err(error).explain(
+            || format!("the image {} cannot be locked", shown(path)),
+            "keep images on a disk of this machine",
+        ),
+    }
+}
+
 /// A file with holes gets its blocks.
 fn allocate(file: &File, length: u64) -> io::Result<()> {
     match posix_fallocate(file.as_raw_fd(), 0, length as i64) {
@@ -108,15 +129,19 @@ fn allocate(file: &File, length: u64) -> io::Result<()> {
 pub fn read(path: &Path, named: &Named) -> Outcome<Vec<u8>> {
     let length = fs::metadata(path)
         .explain(
-            || format!("the image {} cannot be read", path.display()),
+            || format!("the image {} cannot be read", shown(path)),
             "give the path of an image file; a blank one is made by `indraveck image new`",
         )?
         .len();
     check_length(path, length, named)?;
-    let bytes = fs::read(path).explain(
-        || format!("the image {} cannot be read", path.display()),
-        "give an image file that may be read",
-    )?;
+    let mut bytes = Vec::new();
+    // no more than it should have, whatever becomes of the file meanwhile
+    File::open(path)
+        .and_then(|file| file.take(length + 1).read_to_end(&mut bytes))
+        .explain(
+            || format!("the image {} cannot be read", shown(path)),
+            "give an image file that may be read",
+        )?;
     check_length(path, bytes.len() as u64, named)?;
     Ok(bytes)
 }
@@ -129,7 +154,7 @@ fn check_length(path: &Path, length: u64, named: &Named) -> Outcome<()> {
     Err(Failure::new(
         format!(
             "the image {} has {}, and the areas of the profile {} have {} together",
-            path.display(),
+            shown(path),
             number::bytes(length),
             named.name,
             number::bytes(total)
@@ -156,7 +181,7 @@ pub fn create(path: &Path, named: &Named, id: Option<[u8; 16]>) -> Outcome<()> {
                 "give a path in a folder that is there and may be written"
             };
             Failure::new(
-                format!("the image {} cannot be made: {}", path.display(), error),
+                format!("the image {} cannot be made: {}", shown(path), error),
                 advice,
             )
         })?;
@@ -166,7 +191,7 @@ pub fn create(path: &Path, named: &Named, id: Option<[u8; 16]>) -> Outcome<()> {
             // half an image would only be in the way
             let _ = fs::remove_file(path);
             Failure::new(
-                format!("the image {} cannot be written: {}", path.display(), error),
+                format!("the image {} cannot be written: {}", shown(path), error),
                 FULL,
             )
         })

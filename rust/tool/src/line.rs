@@ -11,6 +11,14 @@ pub struct Exchange<'a> {
     pub after: State,
 }
 
+/// What became of the bytes of one feed.
+pub struct Taken<'a> {
+    pub consumed: usize,
+    /// How many bytes in front the device passed over; none while waking up.
+    pub skipped: usize,
+    pub exchange: Option<Exchange<'a>>,
+}
+
 /// Feeds a device and keeps the bytes of the request that is under way.
 #[derive(Default)]
 pub struct Line {
@@ -18,13 +26,22 @@ pub struct Line {
     reply: Vec<u8>,
 }
 
+/// The byte that a packet starts with; none while waking up.
+fn start_byte(stage: Stage) -> Option<u8> {
+    match stage {
+        Stage::Setting { .. } => None,
+        Stage::Authentication | Stage::Command => Some(0x01),
+        Stage::Writing { .. } | Stage::Reading { .. } => Some(0x81),
+    }
+}
+
 impl Line {
-    /// Feeds bytes up to the one that completes the first reply: how many those were, and the exchange if there was one.
+    /// Feeds bytes up to the one that completes the first reply.
     pub fn feed<I: AsRef<[u8]> + AsMut<[u8]>>(
         &mut self,
         device: &mut Device<I>,
         input: &[u8],
-    ) -> (usize, Option<Exchange>) {
+    ) -> Taken {
         let before = device.state();
         if before.held == 0 {
             self.request.clear();
@@ -32,34 +49,51 @@ impl Line {
         let (consumed, reply) = device.feed_once(input);
         self.reply.clear();
         self.reply.extend_from_slice(reply);
-        self.keep(&before, &input[..consumed]);
-        if self.reply.is_empty() {
-            return (consumed, None);
-        }
-        let exchange = Exchange {
-            before,
-            request: &self.request,
-            reply: &self.reply,
-            after: device.state(),
+        let skipped = self.keep(&before, &input[..consumed]);
+        let exchange = if self.reply.is_empty() {
+            None
+        } else {
+            Some(Exchange {
+                before,
+                request: &self.request,
+                reply: &self.reply,
+                after: device.state(),
+            })
         };
-        (consumed, Some(exchange))
+        Taken {
+            consumed,
+            skipped,
+            exchange,
+        }
     }
 
     /// The bytes in front of the start byte are skipped, as the device skips them.
-    fn keep(&mut self, before: &State, bytes: &[u8]) {
-        let start = match before.stage {
-            Stage::Setting { .. } => return,
-            Stage::Authentication | Stage::Command => 0x01,
-            Stage::Writing { .. } | Stage::Reading { .. } => 0x81,
+    fn keep(&mut self, before: &State, bytes: &[u8]) -> usize {
+        let start = match start_byte(before.stage) {
+            Some(start) => start,
+            None => return 0,
         };
         let from = if self.request.is_empty() {
-            bytes.iter().position(|byte| *byte == start)
+            let found = bytes.iter().position(|byte| *byte == start);
+            found.unwrap_or(bytes.len())
         } else {
-            Some(0)
+            0
         };
-        if let Some(from) = from {
-            self.request.extend_from_slice(&bytes[from..]);
+        self.request.extend_from_slice(&bytes[from..]);
+        from
+    }
+
+    /// How many bytes of a packet have come, and how many it will have if its length is known; none if no packet has begun.
+    pub fn begun(&self, state: &State) -> Option<(usize, Option<usize>)> {
+        let held = state.held as usize;
+        if held == 0 {
+            return None;
         }
+        let whole = match self.request[..] {
+            [_, high, low, ..] => Some(256 * usize::from(high) + usize::from(low) + 5),
+            _ => None,
+        };
+        Some((held, whole))
     }
 }
 

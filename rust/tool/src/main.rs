@@ -1,53 +1,98 @@
 //! `indraveck`: the stand-in that flashing scripts meet.
 
 mod cli;
+mod control;
 mod failure;
 mod feed;
 mod image;
 mod line;
+mod link;
+mod log;
 mod number;
+mod output;
 mod port;
+mod print;
 mod profile_file;
+mod registry;
 mod serve;
 mod show;
 mod signals;
+mod silence;
+mod slot;
 mod stand_in;
+mod text;
 mod words;
 
 use clap::Parser;
 use cli::{Cli, Command, Images, New, Profiles};
-use failure::Outcome;
-use std::process::ExitCode;
+use control::Ask;
+use failure::{Failure, Outcome};
+use std::process::exit;
 
-fn main() -> ExitCode {
-    let done = match Cli::parse().command {
+const DONE: i32 = 0;
+const NOT_DONE: i32 = 1;
+const WRONG_COMMAND_LINE: i32 = 2;
+
+fn main() {
+    signals::ignore_file_limits();
+    std::panic::set_hook(Box::new(|panic| {
+        tell(&Failure::new(
+            format!("this should not have happened: {}", panic),
+            "report it with what you did; do not count the last request as done",
+        ));
+        exit(NOT_DONE);
+    }));
+    // at once, whatever a thread that writes is waiting for
+    exit(match Cli::try_parse() {
+        Ok(cli) => status(run(cli.command)),
+        Err(wrong) if wrong.use_stderr() => {
+            output::tell_people(wrong.to_string().trim_end());
+            WRONG_COMMAND_LINE
+        }
+        Err(help) => status(print::all(&help.to_string())),
+    });
+}
+
+fn run(command: Command) -> Outcome<()> {
+    match command {
         Command::Serve(arguments) => serve::run(&arguments),
-        Command::Feed(target) => feed::run(&target),
+        Command::Reset(slot) => slot::run(&slot.slot, Ask::Reset),
+        Command::Status(arguments) => slot::status(&arguments),
+        Command::Stop(slot) => slot::run(&slot.slot, Ask::Stop),
+        Command::Feed(arguments) => feed::run(&arguments),
         Command::Profile(Profiles::Check { file }) => show::check(&file),
         Command::Image(Images::New(arguments)) => new(&arguments),
         Command::Image(Images::Show(arguments)) => show::show(&arguments),
-    };
+    }
+}
+
+fn status(done: Outcome<()>) -> i32 {
     match done {
-        Ok(()) => ExitCode::SUCCESS,
+        Ok(()) => DONE,
         Err(failure) => {
-            eprintln!("{}", failure);
-            ExitCode::FAILURE
+            tell(&failure);
+            NOT_DONE
         }
+    }
+}
+
+fn tell(failure: &Failure) {
+    if !failure.is_told() {
+        output::tell_people(&failure.to_string());
     }
 }
 
 fn new(arguments: &New) -> Outcome<()> {
     let named = profile_file::accepted(&arguments.profile)?;
     image::create(&arguments.image, &named, arguments.id.map(|id| id.0))?;
-    println!(
-        "{}: {}, blank{}",
-        arguments.image.display(),
+    print::all(&format!(
+        "{}: {}, blank{}\n",
+        text::shown(&arguments.image),
         number::bytes(named.profile.total()),
         if arguments.id.is_some() {
             " but for the ID code"
         } else {
             ""
         }
-    );
-    Ok(())
+    ))
 }

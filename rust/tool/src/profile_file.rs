@@ -1,128 +1,34 @@
-//! Profile files: TOML that a person writes.
+//! Profile files, read for a command: an acceptable profile, or what to do about it.
 
-use crate::failure::{Explain, Failure, Outcome};
-use indraveck::{Area, Kind, Profile};
-use serde::de::{Error, Unexpected, Visitor};
-use serde::{Deserialize, Deserializer};
-use std::convert::TryFrom;
-use std::fmt;
-use std::fs;
-use std::marker::PhantomData;
-use std::mem::size_of;
+use crate::failure::{Failure, Outcome};
+use crate::text::shown;
+use indraveck::profile_file::{self, ReadError};
 use std::path::Path;
 
-#[derive(Deserialize)]
-#[serde(deny_unknown_fields)]
-struct File {
-    name: String,
-    #[serde(deserialize_with = "limited")]
-    typ: u8,
-    #[serde(deserialize_with = "limited")]
-    bfv: u16,
-    #[serde(deserialize_with = "limited")]
-    sci: u32,
-    #[serde(deserialize_with = "limited")]
-    rmb: u32,
-    window: Option<Window>,
-    #[serde(default)]
-    area: Vec<Entry>,
-}
+pub use indraveck::profile_file::Named;
 
-#[derive(Deserialize)]
-#[serde(deny_unknown_fields)]
-struct Window {
-    #[serde(deserialize_with = "limited")]
-    low: u32,
-    #[serde(deserialize_with = "limited")]
-    high: u32,
-}
+/// How many broken rules a person is told at once.
+const MOST_RULES: usize = 24;
 
-#[derive(Deserialize)]
-#[serde(deny_unknown_fields)]
-struct Entry {
-    kind: Name,
-    #[serde(deserialize_with = "limited")]
-    sad: u32,
-    #[serde(deserialize_with = "limited")]
-    ead: u32,
-    #[serde(deserialize_with = "limited")]
-    eau: u32,
-    #[serde(deserialize_with = "limited")]
-    wau: u32,
-}
-
-#[derive(Clone, Copy, Deserialize)]
-#[serde(rename_all = "lowercase")]
-enum Name {
-    User,
-    Data,
-    Config,
-}
-
-/// A number of as many bytes as `T` has, with an error that says its limits.
-fn limited<'de, D: Deserializer<'de>, T: TryFrom<i64>>(from: D) -> Result<T, D::Error> {
-    from.deserialize_i64(Limited(PhantomData))
-}
-
-struct Limited<T>(PhantomData<T>);
-
-impl<T: TryFrom<i64>> Visitor<'_> for Limited<T> {
-    type Value = T;
-
-    fn expecting(&self, f: &mut fmt::Formatter) -> fmt::Result {
-        f.write_str(match size_of::<T>() {
-            1 => "a number of one byte, 0 to 0xFF",
-            2 => "a number of two bytes, 0 to 0xFFFF",
-            _ => "a number of four bytes, 0 to 0xFFFF_FFFF",
-        })
-    }
-
-    fn visit_i64<E: Error>(self, number: i64) -> Result<T, E> {
-        T::try_from(number).map_err(|_| E::invalid_value(Unexpected::Signed(number), &self))
-    }
-}
-
-/// A profile with the name that its file gives it.
-pub struct Named {
-    pub name: String,
-    pub profile: Profile,
-}
-
-/// What the file says, acceptable or not.
-pub fn read(path: &Path) -> Outcome<Named> {
-    let text = fs::read_to_string(path).explain(
-        || format!("the profile {} cannot be read", path.display()),
-        "give the path of a profile file; the folder profiles/ has some",
-    )?;
-    let file: File = toml::from_str(&text).explain(
-        || format!("the profile {} is not written as one", path.display()),
-        "mend the file; profiles/bench.toml shows every entry",
-    )?;
-    Ok(Named {
-        name: file.name,
-        profile: Profile {
-            areas: file.area.iter().map(area).collect(),
-            sci: file.sci,
-            rmb: file.rmb,
-            typ: file.typ,
-            bfv: file.bfv,
-            low: file.window.as_ref().map_or(0, |window| window.low),
-            high: file.window.as_ref().map_or(0, |window| window.high),
-        },
-    })
-}
-
-fn area(entry: &Entry) -> Area {
-    Area {
-        kind: match entry.kind {
-            Name::User => Kind::User,
-            Name::Data => Kind::Data,
-            Name::Config => Kind::Config,
-        },
-        sad: entry.sad,
-        ead: entry.ead,
-        eau: entry.eau,
-        wau: entry.wau,
+/// What the file says, acceptable or not. The name is only printed from here on, so it is made safe to print.
+fn read(path: &Path) -> Outcome<Named> {
+    match profile_file::read(path) {
+        Ok(Named { name, profile }) => Ok(Named {
+            name: shown(name),
+            profile,
+        }),
+        Err(ReadError::System(error)) => Err(Failure::new(
+            format!("the profile {} cannot be read: {}", shown(path), error),
+            "give the path of a profile file; the folder profiles/ has some",
+        )),
+        Err(ReadError::Parse(error)) => Err(Failure::new(
+            format!(
+                "the profile {} is not written as one: {}",
+                shown(path),
+                error
+            ),
+            "mend the file; profiles/bench.toml shows every entry",
+        )),
     }
 }
 
@@ -133,14 +39,18 @@ pub fn accepted(path: &Path) -> Outcome<Named> {
     if broken.is_empty() {
         return Ok(named);
     }
-    let lines: Vec<String> = broken
+    let mut lines: Vec<String> = broken
         .iter()
+        .take(MOST_RULES)
         .map(|rule| format!("\n  - {}", rule))
         .collect();
+    if broken.len() > MOST_RULES {
+        lines.push(format!("\n  - and {} more", broken.len() - MOST_RULES));
+    }
     Err(Failure::new(
         format!(
             "the profile {} is not acceptable:{}",
-            path.display(),
+            shown(path),
             lines.concat()
         ),
         "mend these entries of the file",

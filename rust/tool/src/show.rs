@@ -4,26 +4,27 @@ use crate::cli::{Range, Show};
 use crate::failure::{Failure, Outcome};
 use crate::image;
 use crate::number::{address, bytes, grouped, hex};
+use crate::print;
 use crate::profile_file::{self, Named};
 use indraveck::{Area, Kind, Profile};
 use std::path::Path;
 
 pub fn check(path: &Path) -> Outcome<()> {
     let named = profile_file::accepted(path)?;
-    println!("the profile {} is acceptable", named.name);
-    println!(
-        "  SCI {}, RMB {}, type {:02X}h, boot firmware {}",
+    let mut text = format!("the profile {} is acceptable\n", named.name);
+    text += &format!(
+        "  SCI {}, RMB {}, type {:02X}h, boot firmware {}\n",
         grouped(named.profile.sci.into()),
         grouped(named.profile.rmb.into()),
         named.profile.typ,
         hex(&named.profile.bfv.to_be_bytes())
     );
-    println!("  {}", window(&named.profile));
+    text += &format!("  {}\n", window(&named.profile));
     for (number, area) in named.profile.areas.iter().enumerate() {
-        println!("  area {}: {}", number, describe(area));
+        text += &format!("  area {}: {}\n", number, describe(area));
     }
-    println!("  an image has {}", bytes(named.profile.total()));
-    Ok(())
+    text += &format!("  an image has {}\n", bytes(named.profile.total()));
+    print::all(&text)
 }
 
 fn window(profile: &Profile) -> String {
@@ -69,14 +70,10 @@ fn describe(area: &Area) -> String {
 pub fn show(arguments: &Show) -> Outcome<()> {
     let named = profile_file::accepted(&arguments.profile)?;
     let flash = image::read(&arguments.image, &named)?;
-    match &arguments.range {
-        Some(range) => show_range(&named, &flash, range),
-        None => {
-            show_areas(&named.profile, &flash);
-            show_id(&named.profile, &flash);
-            Ok(())
-        }
-    }
+    print::all(&match &arguments.range {
+        Some(range) => part(&named, &flash, range)?,
+        None => areas(&named.profile, &flash) + &id(&named.profile, &flash),
+    })
 }
 
 /// A stretch of bytes that are all blank, or none of whose sixteens is.
@@ -103,15 +100,16 @@ fn stretches(part: &[u8]) -> Vec<Stretch> {
 
 const MOST_LINES: usize = 24;
 
-fn show_areas(profile: &Profile, flash: &[u8]) {
+fn areas(profile: &Profile, flash: &[u8]) -> String {
+    let mut text = String::new();
     let mut base = 0;
     for (number, area) in profile.areas.iter().enumerate() {
-        println!("area {}: {}", number, describe(area));
+        text += &format!("area {}: {}\n", number, describe(area));
         let part = &flash[base..base + area.size() as usize];
         let found = stretches(part);
         for stretch in found.iter().take(MOST_LINES) {
-            println!(
-                "  {} to {}  {}  {}",
+            text += &format!(
+                "  {} to {}  {}  {}\n",
                 address(area.sad + stretch.from as u32),
                 address(area.sad + (stretch.to - 1) as u32),
                 if stretch.used { "used " } else { "blank" },
@@ -119,35 +117,34 @@ fn show_areas(profile: &Profile, flash: &[u8]) {
             );
         }
         if found.len() > MOST_LINES {
-            println!("  and {} parts more", found.len() - MOST_LINES);
+            text += &format!("  and {} parts more\n", found.len() - MOST_LINES);
         }
         base += part.len();
     }
+    text
 }
 
-fn show_id(profile: &Profile, flash: &[u8]) {
+fn id(profile: &Profile, flash: &[u8]) -> String {
     let at = profile.id_place();
     let id = &flash[at..at + 16];
     if id.iter().all(|byte| *byte == 0xFF) {
-        println!("ID code: none stored");
-        return;
+        return "ID code: none stored\n".to_string();
     }
     let note = match (id[0] & 0x80, id[0] & 0x40) {
         (0, _) => "bit 127 is 0: every authentication is refused (DCh)",
         (_, 0) => "bit 126 is 0: no total erase",
         _ => "bits 127 and 126 are 1: this code, or total erase",
     };
-    println!("ID code: {}\n  {}", hex(id), note);
+    format!("ID code: {}\n  {}\n", hex(id), note)
 }
 
-fn show_range(named: &Named, flash: &[u8], range: &Range) -> Outcome<()> {
+fn part(named: &Named, flash: &[u8], range: &Range) -> Outcome<String> {
     let mut base = 0;
     for area in &named.profile.areas {
         if area.sad <= range.first && range.last <= area.ead {
             let from = base + (range.first - area.sad) as usize;
             let to = base + (range.last - area.sad) as usize + 1;
-            print_hex(range.first, &flash[from..to]);
-            return Ok(());
+            return Ok(in_hex(range.first, &flash[from..to]));
         }
         base += area.size() as usize;
     }
@@ -162,7 +159,8 @@ fn show_range(named: &Named, flash: &[u8], range: &Range) -> Outcome<()> {
     ))
 }
 
-fn print_hex(first: u32, part: &[u8]) {
+fn in_hex(first: u32, part: &[u8]) -> String {
+    let mut shown = String::new();
     for (line, sixteen) in part.chunks(16).enumerate() {
         let text: String = sixteen
             .iter()
@@ -171,11 +169,12 @@ fn print_hex(first: u32, part: &[u8]) {
                 _ => '.',
             })
             .collect();
-        println!(
-            "{}  {:<47}  {}",
+        shown += &format!(
+            "{}  {:<47}  {}\n",
             address(first + 16 * line as u32),
             hex(sixteen),
             text
         );
     }
+    shown
 }

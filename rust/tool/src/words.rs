@@ -84,6 +84,27 @@ fn command(com: u8, information: &[u8]) -> String {
     format!("{} ({:02X}h) {}", name, com, detail)
 }
 
+/// Where the device stands.
+pub fn stage(stage: Stage) -> String {
+    let transfer = |name, next, left: u32| {
+        format!(
+            "{}, {} at {} and on to go",
+            name,
+            bytes(left.into()),
+            address(next)
+        )
+    };
+    match stage {
+        Stage::Setting { low_pulses: 0 } => "setting: not woken up".to_string(),
+        Stage::Setting { low_pulses: 1 } => "setting: one low pulse has come".to_string(),
+        Stage::Setting { .. } => "setting: the low pulses are acknowledged".to_string(),
+        Stage::Authentication => "authentication: an ID code has to be given".to_string(),
+        Stage::Command => "command".to_string(),
+        Stage::Writing { next, left } => transfer("writing", next, left),
+        Stage::Reading { next, left } => transfer("reading", next, left),
+    }
+}
+
 /// What was answered.
 fn reply(exchange: &Exchange) -> String {
     let data = |from: usize| &exchange.reply[from..exchange.reply.len() - 2];

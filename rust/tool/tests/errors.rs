@@ -5,6 +5,8 @@ mod common;
 use common::{root, Folder};
 use std::collections::BTreeMap;
 use std::fs;
+use std::os::unix::ffi::OsStringExt;
+use std::os::unix::fs::symlink;
 
 fn document() -> String {
     fs::read_to_string(root().join("docs/ERRORS.md")).expect("the document")
@@ -54,11 +56,27 @@ fn make_others(folder: &Folder) {
     }
     folder.write("nine.toml", nine.as_bytes());
     folder.write("latin.toml", b"name = \"\xE9\"\n");
+    make_odd_profiles(folder);
     folder.write("flash.bin", &common::pattern(65_792, 77));
     folder.write("short.bin", &[0xFF; 65_791]);
     folder.write("empty.bin", b"");
     folder.write("slot", b"");
     fs::create_dir(folder.path("folder")).expect("a folder");
+    for (name, target) in [
+        ("dangling", "/dev/pts/99999"),
+        ("stale", "/tmp/indraveck-0/stand-in-0123456789abcdef/port"),
+    ] {
+        symlink(target, folder.path(name)).expect("a link");
+    }
+}
+
+/// Profiles that no text of the table can make.
+fn make_odd_profiles(folder: &Folder) {
+    let bench = String::from_utf8(folder.read("bench.toml")).expect("the bench profile");
+    let escape = bench.replacen('\n', " \u{1B}\n", 1);
+    folder.write("escape.toml", escape.as_bytes());
+    let comment = "#".repeat(65_537 - bench.len());
+    folder.write("long.toml", (bench + &comment).as_bytes());
 }
 
 struct Case {
@@ -115,13 +133,16 @@ fn matches(expected: &str, text: &str) -> bool {
     open || rest.is_empty()
 }
 
+/// Every file with its bytes, or where it leads.
 fn contents(folder: &Folder) -> BTreeMap<String, Option<Vec<u8>>> {
     let entries = fs::read_dir(&folder.0).expect("the test's folder");
     entries
         .map(|entry| {
             let entry = entry.expect("an entry of the folder");
             let name = entry.file_name().to_string_lossy().into_owned();
-            (name, fs::read(entry.path()).ok())
+            let target = fs::read_link(entry.path()).ok();
+            let led_to = target.map(|target| target.into_os_string().into_vec());
+            (name, led_to.or_else(|| fs::read(entry.path()).ok()))
         })
         .collect()
 }
@@ -130,11 +151,11 @@ fn contents(folder: &Folder) -> BTreeMap<String, Option<Vec<u8>>> {
 fn every_error_of_the_document_is_given_and_nothing_is_lost() {
     let document = document();
     let folder = Folder::new();
-    assert!(make_profiles(&folder, &document) >= 20);
+    assert!(make_profiles(&folder, &document) >= 30);
     make_others(&folder);
     let before = contents(&folder);
     let cases = cases(&document);
-    assert!(cases.len() >= 45, "only {} cases", cases.len());
+    assert!(cases.len() >= 60, "only {} cases", cases.len());
     for case in &cases {
         let arguments: Vec<&str> = case.command.iter().map(String::as_str).collect();
         let output = folder.run(&arguments);
@@ -160,6 +181,27 @@ fn every_error_of_the_document_is_given_and_nothing_is_lost() {
             "{:?} changed a file",
             arguments
         );
+    }
+}
+
+#[test]
+fn no_control_character_of_a_path_is_printed() {
+    let folder = Folder::new();
+    let bench = String::from_utf8(folder.read("bench.toml")).expect("the bench profile");
+    let unacceptable = bench.replace("low = 0x0", "low = 0x1");
+    for name in ["\u{1B}[2J.toml", "\u{202E}lmot.toml", "a\nb.toml"] {
+        for (text, lines) in [(None, 2), (Some("x"), 2), (Some(unacceptable.as_str()), 3)] {
+            if let Some(text) = text {
+                folder.write(name, text.as_bytes());
+            }
+            let output = folder.run(&["profile", "check", name]);
+            assert_eq!(output.status.code(), Some(1));
+            let error = String::from_utf8(output.stderr).expect("text");
+            assert!(error.contains("indraveck: the profile "), "{}", error);
+            assert_eq!(error.lines().count(), lines, "{}", error);
+            let is_hidden = |c: char| (c.is_control() && c != '\n') || c == '\u{202E}';
+            assert!(!error.contains(is_hidden), "{:?}", error);
+        }
     }
 }
 

@@ -2,7 +2,7 @@
 
 mod common;
 
-use common::{command, data, packet, range, Folder};
+use common::{command, data, packet, range, words, Folder};
 
 const ID: &str = "c0ffee00112233445566778899aabbcc";
 
@@ -65,9 +65,8 @@ fn each_exchange_is_told_in_words() {
         .collect();
     let output = folder.run_with(&[&["feed"], &files[..], &["--log"]].concat(), &input);
     assert_eq!(output.status.code(), Some(0), "{:?}", output);
-    let log = String::from_utf8_lossy(&output.stderr);
     let expected: Vec<&str> = session.iter().map(|(_, line)| *line).collect();
-    assert_eq!(log.lines().collect::<Vec<&str>>(), expected);
+    assert_eq!(words(&output.stderr), expected);
 }
 
 /// Bit 127 of the stored ID clear: no code helps. Bits 127 and 126 set: the total erase does.
@@ -94,7 +93,7 @@ fn what_an_id_forbids_and_allows_is_told() {
         assert_eq!(made.status.code(), Some(0), "{:?}", made);
         let input = [&[0x00, 0x00, 0x55][..], &command(0x30, &code)].concat();
         let output = folder.run_with(&[&["feed"], &files[..], &["--log"]].concat(), &input);
-        let log = String::from_utf8_lossy(&output.stderr);
-        assert_eq!(log.lines().last(), Some(line));
+        let log = words(&output.stderr);
+        assert_eq!(log.last().map(String::as_str), Some(line));
     }
 }

@@ -3,7 +3,8 @@
 mod common;
 
 use common::{
-    command, data, packet, pattern, range, Client, Folder, Serving, ERASED, SHOW_FLASH, WRITTEN,
+    command, data, packet, pattern, range, words, Client, Folder, Serving, AWAKE, ERASED,
+    SHOW_FLASH, WRITTEN,
 };
 use indraveck::Profile;
 use indraveck_model::{Area, Entry};
@@ -64,7 +65,7 @@ fn the_line_examples_of_the_paper_are_answered() {
         assert_eq!(client.ask(request), reply);
     }
     assert_eq!(serving.end(Signal::SIGTERM), Some(0));
-    let log = String::from_utf8(folder.read("flash.bin.log")).expect("a log in words");
+    let log = words(&folder.read("flash.bin.log"));
     for line in [
         "wake-up: C3h, the device is awake; no ID code is stored",
         "signature (3Ah): SCI 60,000,000, RMB 4,000,000, 2 areas, type 01h, boot firmware 01 00",
@@ -75,7 +76,7 @@ fn the_line_examples_of_the_paper_are_answered() {
         "area (3Bh) 2: D0h address error: the range is not one that this command takes, or no such area",
         "ended; 8 answers sent",
     ] {
-        assert!(log.lines().any(|logged| logged == line), "no {:?} in\n{}", line, log);
+        assert!(log.iter().any(|logged| logged == line), "no {:?} in\n{:#?}", line, log);
     }
 }
 
@@ -203,8 +204,7 @@ fn usr1_resets_the_device_and_keeps_the_flash() {
     client.send(&data(&bytes)[..20]);
     serving.reset();
     client.wake_up();
-    let inquiry = [0x81, 0x00, 0x02, 0x00, 0x00, 0xFE, 0x03];
-    assert_eq!(client.ask(&command(0x00, &[])), inquiry);
+    assert_eq!(client.ask(&command(0x00, &[])), AWAKE);
     let flash = folder.read("flash.bin");
     assert_eq!(flash[..0x80], bytes);
     assert!(flash[0x80..].iter().all(|byte| *byte == 0xFF));
@@ -238,8 +238,7 @@ fn two_stand_ins_do_not_disturb_each_other() {
     }
     // one of them ends; the other goes on
     assert_eq!(first.end(Signal::SIGTERM), Some(0));
-    let last = [0x81, 0x00, 0x02, 0x00, 0x00, 0xFE, 0x03];
-    assert_eq!(clients[1].ask(&command(0x00, &[])), last);
+    assert_eq!(clients[1].ask(&command(0x00, &[])), AWAKE);
     assert_eq!(folder.read("first.bin")[..0x800], contents[0]);
     assert_eq!(folder.read("second.bin")[..0x800], contents[1]);
 }
@@ -298,44 +297,4 @@ fn answers_that_nobody_takes_do_not_hold_up_the_end() {
     }
     assert!(client.comes(Duration::from_secs(20)));
     assert_eq!(serving.end(Signal::SIGTERM), Some(0));
-}
-
-#[test]
-fn another_file_in_the_place_of_the_link_stays() {
-    let folder = Folder::new();
-    folder.write("slot", b"something else");
-    let arguments = [
-        "serve",
-        "--profile",
-        "bench.toml",
-        "--image",
-        "flash.bin",
-        "--create",
-        "--link",
-        "slot",
-    ];
-    let refused = folder.run(&arguments);
-    assert_eq!(refused.status.code(), Some(1));
-    assert!(String::from_utf8_lossy(&refused.stderr).contains("the link slot cannot be made"));
-    assert_eq!(folder.read("slot"), b"something else");
-    // nothing was said to be a port
-    assert_eq!(refused.stdout, b"");
-}
-
-#[test]
-fn an_image_cut_short_by_another_program_ends_with_a_word() {
-    let folder = Folder::new();
-    let serving = Serving::start(&folder, "flash.bin", &[]);
-    let mut client = Client::open(&serving.port);
-    client.wake_up();
-    let file = fs::OpenOptions::new()
-        .write(true)
-        .open(folder.path("flash.bin"))
-        .expect("the image");
-    file.set_len(0).expect("the image cut short");
-    client.send(&range(0x12, 0, 0x1FFF));
-    assert_eq!(serving.ended(), Some(1));
-    let log = String::from_utf8(folder.read("flash.bin.log")).expect("a log in words");
-    assert!(log.contains("was cut short by another program"), "{}", log);
-    assert!(!log.contains("erase (12h)"), "{}", log);
 }

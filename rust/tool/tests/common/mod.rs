@@ -2,13 +2,14 @@
 #![allow(dead_code)] // each test file uses its own part
 
 use nix::poll::{poll, PollFd, PollFlags};
-use nix::sys::signal::{kill, Signal};
+use nix::sys::signal::{kill, signal, SigHandler, Signal};
 use nix::unistd::Pid;
 use std::env;
 use std::fs::{self, File, OpenOptions};
 use std::io::{BufRead, BufReader, Read, Write};
 use std::os::unix::fs::OpenOptionsExt;
-use std::os::unix::io::AsRawFd;
+use std::os::unix::io::{AsRawFd, RawFd};
+use std::os::unix::process::CommandExt;
 use std::path::{Path, PathBuf};
 use std::process::{Child, ChildStdout, Command, Output, Stdio};
 use std::sync::atomic::{AtomicUsize, Ordering};
@@ -115,19 +116,34 @@ pub struct Serving {
 }
 
 impl Serving {
-    /// With the bench profile, and the image made if it is not there.
+    /// With the bench profile, and the image made if it is not there; the log is in a file with the image's name and `.log`.
     pub fn start(folder: &Folder, image: &str, more: &[&str]) -> Serving {
         let log = File::create(folder.path(&format!("{}.log", image))).expect("a log");
-        let mut child = tool()
-            .args(["serve", "--profile", "bench.toml", "--create", "--log"])
+        Serving::start_into(folder, image, more, log.into())
+    }
+
+    /// With its log on this standard error.
+    pub fn start_into(folder: &Folder, image: &str, more: &[&str], stderr: Stdio) -> Serving {
+        let mut command = tool();
+        command
+            .args(["serve", "--profile", "bench.toml", "--create"])
             .args(["--image", image])
             .args(more)
             .current_dir(&folder.0)
             .stdin(Stdio::null())
             .stdout(Stdio::piped())
-            .stderr(log)
-            .spawn()
-            .expect("the tool");
+            .stderr(stderr);
+        if !more.contains(&"--log") {
+            command.arg("--log");
+        }
+        // whoever runs the tests may have it ignored
+        unsafe {
+            command.pre_exec(|| {
+                signal(Signal::SIGHUP, SigHandler::SigDfl)?;
+                Ok(())
+            });
+        }
+        let mut child = command.spawn().expect("the tool");
         let mut says = BufReader::new(child.stdout.take().expect("its standard output"));
         let mut name = String::new();
         says.read_line(&mut name).expect("the port's name");
@@ -143,9 +159,18 @@ impl Serving {
     /// Resets the device, and waits until it says so.
     pub fn reset(&mut self) {
         self.signal(Signal::SIGUSR1);
+        self.hear("reset");
+    }
+
+    /// Waits for the next word on its standard output, which has to be this one.
+    pub fn hear(&mut self, expected: &str) {
         let mut word = String::new();
         self.says.read_line(&mut word).expect("a word");
-        assert_eq!(word, "reset\n");
+        assert_eq!(word.trim_end(), expected);
+    }
+
+    pub fn process(&self) -> u32 {
+        self.child.id()
     }
 
     pub fn signal(&self, signal: Signal) {
@@ -178,22 +203,61 @@ impl Drop for Serving {
     }
 }
 
+/// The words of a log in text, each line without its time, which has to be one.
+pub fn words(log: &[u8]) -> Vec<String> {
+    let log = std::str::from_utf8(log).expect("a log in words");
+    log.lines()
+        .map(|line| {
+            let (time, words) = line.split_once("  ").expect("a time and words");
+            let digits: String = time.chars().filter(char::is_ascii_digit).collect();
+            let shape = time.replace(|c: char| c.is_ascii_digit(), "0");
+            assert_eq!(shape, "0000-00-00T00:00:00.000Z", "{}", line);
+            assert!(digits.starts_with("20"), "{}", line);
+            words.to_string()
+        })
+        .collect()
+}
+
+/// Waits until something holds.
+pub fn wait_until(what: &str, mut holds: impl FnMut() -> bool) {
+    let until = Instant::now() + PATIENCE;
+    while !holds() {
+        assert!(Instant::now() < until, "waited in vain: {}", what);
+        std::thread::sleep(Duration::from_millis(5));
+    }
+}
+
 /// A client's end of the line.
 pub struct Client(File);
 
 impl Client {
     pub fn open(port: &Path) -> Client {
+        Client::try_open(port).expect("the port")
+    }
+
+    pub fn try_open(port: &Path) -> std::io::Result<Client> {
         let file = OpenOptions::new()
             .read(true)
             .write(true)
             .custom_flags(nix::libc::O_NOCTTY)
-            .open(port)
-            .expect("the port");
-        Client(file)
+            .open(port)?;
+        Ok(Client(file))
+    }
+
+    pub fn fd(&self) -> RawFd {
+        self.0.as_raw_fd()
     }
 
     pub fn send(&mut self, bytes: &[u8]) {
-        self.0.write_all(bytes).expect("bytes to the port");
+        self.try_send(bytes).expect("bytes to the port");
+    }
+
+    pub fn try_send(&mut self, bytes: &[u8]) -> std::io::Result<()> {
+        self.0.write_all(bytes)
+    }
+
+    pub fn read(&mut self, buffer: &mut [u8]) -> std::io::Result<usize> {
+        self.0.read(buffer)
     }
 
     /// So many bytes; fewer if no more come in time.
@@ -255,6 +319,7 @@ pub fn data(bytes: &[u8]) -> Vec<u8> {
     packet(0x81, &[&[0x13], bytes].concat())
 }
 
+pub const AWAKE: [u8; 7] = [0x81, 0x00, 0x02, 0x00, 0x00, 0xFE, 0x03];
 pub const ERASED: [u8; 7] = [0x81, 0x00, 0x02, 0x12, 0x00, 0xEC, 0x03];
 pub const WRITTEN: [u8; 7] = [0x81, 0x00, 0x02, 0x13, 0x00, 0xEB, 0x03];
 
