@@ -100,6 +100,7 @@ impl Server<'_> {
     /// The port's name alone on standard output, for scripts; the rest for people.
     fn announce(&self) {
         self.says.say(&self.place.port.name.display().to_string());
+        self.says.finish();
         let process = std::process::id();
         let words = format!(
             "serving the profile {} with the image {} on {}, process {}",
@@ -150,14 +151,12 @@ impl Server<'_> {
                 let sent = sent.explain(|| "the port is gone".to_string(), PORT_LOST)?;
                 self.waiting.drain(..sent);
             }
-            self.tell(&visits, Visit::Went);
-            if self
-                .stand_in
-                .quiet_at()
-                .map_or(false, |at| at <= Instant::now())
-            {
+            // silence is explained when it has lasted, or when whoever waited has gone
+            let quiet = self.stand_in.quiet_at();
+            if quiet.map_or(false, |at| at <= Instant::now()) || visits.contains(&Visit::Went) {
                 self.stand_in.tell_silence();
             }
+            self.tell(&visits, Visit::Went);
         }
     }
 

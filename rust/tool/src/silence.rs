@@ -10,8 +10,10 @@ use indraveck::{Stage, State};
 pub struct Silence {
     skipped: u64,
     first: u8,
-    /// Zeros in a row at the end of the skipped bytes, and whether there were two anywhere: that is how a wake-up begins.
+    /// Zeros in a row at the end of the skipped bytes, whether a packet's start byte stands before them, and whether there were two
+    /// anywhere without one: that is how a wake-up begins.
     zeros: u64,
+    started: bool,
     pulses: bool,
     noise: u64,
     told: Option<Open>,
@@ -124,8 +126,13 @@ impl Silence {
             self.first = byte;
         }
         self.skipped += 1;
-        self.zeros = if byte == 0x00 { self.zeros + 1 } else { 0 };
-        self.pulses |= self.zeros >= 2;
+        if byte == 0x00 {
+            self.zeros += 1;
+        } else {
+            self.zeros = 0;
+            self.started = matches!(byte, 0x01 | 0x81);
+        }
+        self.pulses |= self.zeros >= 2 && !self.started;
     }
 
     /// Bytes that came at another rate than the device's.

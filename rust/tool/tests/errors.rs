@@ -2,7 +2,7 @@
 
 mod common;
 
-use common::{root, Folder};
+use common::{matches, root, Folder};
 use std::collections::BTreeMap;
 use std::fs;
 use std::os::unix::ffi::OsStringExt;
@@ -114,25 +114,6 @@ fn cases(document: &str) -> Vec<Case> {
     found
 }
 
-/// Whether a text is as expected, where `...` stands for any words.
-fn matches(expected: &str, text: &str) -> bool {
-    let mut parts = expected.trim_end().split("...");
-    let first = parts.next().unwrap_or_default();
-    let mut rest = match text.trim_end().strip_prefix(first) {
-        Some(rest) => rest,
-        None => return false,
-    };
-    let mut open = false;
-    for part in parts {
-        open = part.is_empty();
-        rest = match rest.find(part) {
-            Some(at) => &rest[at + part.len()..],
-            None => return false,
-        };
-    }
-    open || rest.is_empty()
-}
-
 /// Every file with its bytes, or where it leads.
 fn contents(folder: &Folder) -> BTreeMap<String, Option<Vec<u8>>> {
     let entries = fs::read_dir(&folder.0).expect("the test's folder");
@@ -209,6 +190,10 @@ fn no_control_character_of_a_path_is_printed() {
 fn the_comparison_notices_a_difference() {
     assert!(matches("a ... c", "a b c"));
     assert!(matches("a...", "a b c"));
+    assert!(matches("a ... c", "a c b c"));
+    assert!(matches("a...b...", "a c b c"));
+    assert!(!matches("a...d...", "a c b c"));
+    assert!(!matches("ab...b", "ab"));
     assert!(!matches("a ... c", "a b d"));
     assert!(!matches("a", "a b"));
     assert!(!matches("b", "a b"));

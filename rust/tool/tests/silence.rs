@@ -37,6 +37,9 @@ fn bytes_that_get_no_answer_are_explained() {
     let cases: Vec<(bool, Vec<u8>, Vec<String>)> = vec![
         (true, vec![0xAA, 0xBB, 0x03], vec!["3 bytes skipped, the first AAh: a command (01h) is awaited".to_string()]),
         (true, vec![0x00, 0x00, 0x55], vec!["a wake-up was ignored (3 bytes skipped, the first 00h): the device is awake already, and a command (01h) is awaited; a reset takes it back to waking up".to_string()]),
+        (true, vec![0xFF, 0x00, 0x00], vec!["a wake-up was ignored (3 bytes skipped, the first FFh): the device is awake already, and a command (01h) is awaited; a reset takes it back to waking up".to_string()]),
+        // a packet of the other kind, not a wake-up
+        (true, vec![0x81, 0x00, 0x00], vec!["3 bytes skipped, the first 81h: a command (01h) is awaited".to_string()]),
         (true, vec![0x01], vec!["begun and not ended: 1 byte of a packet came, not yet its whole length".to_string()]),
         (true, command(0x3A, &[])[..5].to_vec(), vec!["begun and not ended: 5 of the 6 bytes of a packet have come".to_string()]),
         (true, [&[0xEE][..], &command(0x00, &[]), &[0xEE]].concat(), vec![

@@ -218,6 +218,28 @@ pub fn words(log: &[u8]) -> Vec<String> {
         .collect()
 }
 
+/// Whether a text is as expected, where `...` stands for any words.
+pub fn matches(expected: &str, text: &str) -> bool {
+    let parts: Vec<&str> = expected.trim_end().split("...").collect();
+    let text = text.trim_end();
+    let (first, last) = (parts[0], parts[parts.len() - 1]);
+    if parts.len() == 1 {
+        return text == first;
+    }
+    let ends = text.starts_with(first) && text.ends_with(last);
+    if !ends || text.len() < first.len() + last.len() {
+        return false;
+    }
+    let mut rest = &text[first.len()..text.len() - last.len()];
+    for part in &parts[1..parts.len() - 1] {
+        rest = match rest.find(part) {
+            Some(at) => &rest[at + part.len()..],
+            None => return false,
+        };
+    }
+    true
+}
+
 /// Waits until something holds.
 pub fn wait_until(what: &str, mut holds: impl FnMut() -> bool) {
     let until = Instant::now() + PATIENCE;
