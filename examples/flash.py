@@ -67,6 +67,10 @@ REMEDIES = {
     0xDC: "no ID opens this device any more, take another one",
     0xE2: "an area without an erase unit is cleared by --total-erase only",
 }
+NO_TOTAL_ERASE = {
+    FLOW_ERROR: "this device has no ID stored, leave out --total-erase",
+    0xDB: "this device's ID doesn't allow a total erase, give it with --id",
+}
 START_AGAIN = "reset the device into boot mode, then run this again"
 
 
@@ -92,6 +96,7 @@ class Nobody(Unanswered):
     """Nothing at all came, neither from a device that sleeps nor from one that is awake."""
 
     reason = "nobody"
+    remedy = f"check the port, the cable and --baud, {START_AGAIN}"
 
 
 class Awake(Unanswered):
@@ -388,6 +393,11 @@ class Line:
         return contents
 
 
+def plain(text: str) -> str:
+    """For a terminal: a name may hold control characters, which are written as escapes."""
+    return "".join(c if c.isprintable() or c == "\n" else f"\\u{ord(c):04X}" for c in text)
+
+
 def say(stream: TextIO | None, text: str) -> bool:
     """Whether the text was taken. A stream that was closed from the start is None."""
     try:
@@ -504,8 +514,13 @@ class Session:
         return "the ID code was accepted"
 
     def total_erase(self) -> str:
-        self.ask_status(command(AUTHENTICATE, TOTAL_ERASE_CODE), AUTHENTICATE,
-                        "total-erase code, for devices with an ID")
+        try:
+            self.ask_status(command(AUTHENTICATE, TOTAL_ERASE_CODE), AUTHENTICATE,
+                            "total-erase code, for devices with an ID")
+        except Refused as refusal:
+            if refusal.status in NO_TOTAL_ERASE:
+                refusal.remedy = f"{NO_TOTAL_ERASE[refusal.status]}; {START_AGAIN}"
+            raise
         return "the total-erase code was accepted"
 
     def change_rate(self) -> str:
@@ -678,10 +693,10 @@ def report(options: argparse.Namespace, ledger: Ledger, ending: Ending) -> int:
     if options.json:
         text = as_json(options, ledger, ending)
     elif ending.status == 2 and not ledger.count(Outcome.OK):  # nobody was asked anything
-        say(sys.stderr, f"flash.py: {ending.message}\n")
+        say(sys.stderr, plain(f"flash.py: {ending.message}\n"))
         return ending.status
     else:
-        text = ledger.text() + (ending.message and f"{ending.message}\n")
+        text = plain(ledger.text() + (ending.message and f"{ending.message}\n"))
     if say(sys.stdout, text):
         return ending.status
     say(sys.stderr, "flash.py: the ledger could not be printed; keep standard output open.\n")
@@ -722,7 +737,7 @@ def id_code(text: str) -> bytes:
 class Parser(argparse.ArgumentParser):
     def _print_message(self, message: str, file: TextIO | None = None) -> None:
         """As in the class above, but a stream that fails is no traceback."""
-        if not say(file or sys.stderr, message) and file is sys.stdout:
+        if not say(file or sys.stderr, plain(message)) and file is sys.stdout:
             sys.exit(1)
 
 

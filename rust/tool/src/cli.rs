@@ -185,6 +185,7 @@ pub struct Range {
 fn range(text: &str) -> Result<Range, String> {
     let (first, last) = text
         .split_once('-')
+        .or_else(|| text.split_once(" to "))
         .ok_or("write it as FIRST-LAST, for instance 0x4000-0x40FF")?;
     let range = Range {
         first: number::parse(first)?,
@@ -246,6 +247,7 @@ mod tests {
         };
         assert_eq!(range("0x4000-0x40FF"), Ok(both));
         assert_eq!(range("00004000h-000040FFh"), Ok(both));
+        assert_eq!(range("00004000h to 000040FFH"), Ok(both));
         assert_eq!(range("16,384-16639"), Ok(both));
         assert!(range("0x4000").is_err());
         assert!(range("0x4001-0x4000").is_err());

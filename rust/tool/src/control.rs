@@ -52,27 +52,33 @@ pub struct Caller {
 }
 
 impl Caller {
-    /// The word, once it is there; an error once it cannot come any more.
+    /// The word, once it is there; an error once it cannot come any more. All that has come is read first: what somebody asked who has
+    /// hung up since is not done any more.
     fn listen(&mut self) -> io::Result<Option<Ask>> {
         let mut part = [0; LONGEST];
         loop {
             match self.stream.read(&mut part) {
                 Ok(0) => return Err(io::ErrorKind::UnexpectedEof.into()),
                 Ok(count) => self.heard.extend_from_slice(&part[..count]),
-                Err(error) if error.kind() == io::ErrorKind::WouldBlock => return Ok(None),
+                Err(error) if error.kind() == io::ErrorKind::WouldBlock => return self.word(),
                 Err(error) if error.kind() == io::ErrorKind::Interrupted => continue,
                 Err(error) => return Err(error),
-            }
-            if let Some(end) = self.heard.iter().position(|byte| *byte == b'\n') {
-                let word = String::from_utf8_lossy(&self.heard[..end]).into_owned();
-                return Ask::of(&word)
-                    .map(Some)
-                    .ok_or_else(|| io::ErrorKind::InvalidData.into());
             }
             if self.heard.len() > LONGEST {
                 return Err(io::ErrorKind::InvalidData.into());
             }
         }
+    }
+
+    fn word(&self) -> io::Result<Option<Ask>> {
+        let end = match self.heard.iter().position(|byte| *byte == b'\n') {
+            Some(end) => end,
+            None => return Ok(None),
+        };
+        let word = String::from_utf8_lossy(&self.heard[..end]);
+        Ask::of(&word)
+            .map(Some)
+            .ok_or_else(|| io::ErrorKind::InvalidData.into())
     }
 
     /// Short enough never to wait; a caller who is gone is none of the stand-in's business.
@@ -86,7 +92,7 @@ impl Caller {
 impl Control {
     pub fn open(path: &Path, access: &Access) -> Outcome<Control> {
         let doing = || format!("the socket {} cannot be made", shown(path));
-        let advice = "set INDRAVECK_RUN to a folder of your own with a short name";
+        let advice = "see that /tmp may be written, and that the tool may open more files";
         let listener = UnixListener::bind(path).explain(doing, advice)?;
         listener.set_nonblocking(true).explain(doing, advice)?;
         if let Some(group) = port::group_of(access)? {
@@ -109,7 +115,11 @@ impl Control {
     /// Who has said a whole word since this was asked last.
     pub fn asked(&mut self) -> Vec<(Caller, Ask)> {
         while let Ok((stream, _)) = self.listener.accept() {
-            if self.callers.len() < MOST_CALLERS && stream.set_nonblocking(true).is_ok() {
+            if self.callers.len() == MOST_CALLERS {
+                // whoever has said nothing for longest makes room
+                self.callers.remove(0);
+            }
+            if stream.set_nonblocking(true).is_ok() {
                 self.callers.push(Caller {
                     stream,
                     heard: Vec::new(),

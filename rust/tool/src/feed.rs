@@ -2,18 +2,29 @@
 
 use crate::cli::Feed;
 use crate::failure::{Explain, Outcome};
+use crate::files;
 use crate::log::Log;
 use crate::signals;
 use crate::stand_in::StandIn;
 use std::io::{self, Read, Write};
 
 pub fn run(arguments: &Feed) -> Outcome<()> {
-    signals::watch_the_map()?;
-    let mut stand_in = StandIn::start(&arguments.target, Log::open(&arguments.logging)?)?;
+    files::apart(&[
+        ("profile", Some(&arguments.target.profile)),
+        ("image", Some(&arguments.target.image)),
+        ("log", arguments.logging.place().flatten()),
+    ])?;
+    let log = Log::open(&arguments.logging)?;
+    feed(arguments, &log).map_err(|failure| log.failed(failure))
+}
+
+fn feed(arguments: &Feed, log: &Log) -> Outcome<()> {
+    signals::watch_the_map(log.fd(), log.is_json())?;
+    let mut stand_in = StandIn::start(&arguments.target, log.clone())?;
     let done = answer(&mut stand_in);
     stand_in.tell_silence();
-    stand_in.log.finish();
-    done.map_err(|failure| stand_in.log.failed(failure))
+    log.finish();
+    done
 }
 
 fn answer(stand_in: &mut StandIn) -> Outcome<()> {

@@ -3,10 +3,12 @@
 use crate::failure::{Explain, Failure, Outcome};
 use crate::number;
 use crate::profile_file::Named;
+use crate::registry::{wait_for, DYING};
 use crate::text::shown;
 use memmap2::MmapMut;
 use nix::errno::Errno;
 use nix::fcntl::{flock, posix_fallocate, FlockArg};
+use nix::sys::inotify::{AddWatchFlags, InitFlags, Inotify};
 use std::fs::{self, File, OpenOptions};
 use std::io::{self, Read, Write};
 use std::os::unix::fs::MetadataExt;
@@ -23,6 +25,8 @@ pub struct ImageFile {
     path: PathBuf,
     // keeps the lock
     file: File,
+    /// Tells of writes by other programs; those into the mapping are this one's, and are not told.
+    writes: Option<Inotify>,
 }
 
 impl ImageFile {
@@ -59,17 +63,21 @@ impl ImageFile {
             map,
             path: path.to_path_buf(),
             file,
+            writes: watch(path),
         })
     }
 
     /// Whether it is still the file of its name, with all its bytes: what is stored in a file without a name is lost.
     pub fn check(&self) -> Outcome<()> {
+        let length = self.map.len() as u64;
         let wrong = match (self.file.metadata(), fs::metadata(&self.path)) {
-            (Ok(held), _) if held.len() != self.map.len() as u64 => {
-                "was cut short by another program"
-            }
+            (Ok(held), _) if held.len() < length => "was cut short by another program",
+            (Ok(held), _) if held.len() > length => "was made longer by another program",
             (Ok(held), Ok(named)) if (held.dev(), held.ino()) == (named.dev(), named.ino()) => {
-                return Ok(())
+                if !self.was_written() {
+                    return Ok(());
+                }
+                "was written by another program"
             }
             (_, Ok(_)) => "was replaced by another program",
             (_, Err(_)) => "was removed or renamed by another program",
@@ -78,6 +86,11 @@ impl ImageFile {
             format!("the image {} {} while it was in use", shown(&self.path), wrong),
             "put it back and start again; the last request was not answered, so do not count it as done",
         ))
+    }
+
+    fn was_written(&self) -> bool {
+        let events = self.writes.as_ref().map(|writes| writes.read_events());
+        matches!(events, Some(Ok(events)) if !events.is_empty())
     }
 
     /// Waits until what was stored is on the disk.
@@ -101,9 +114,20 @@ impl AsMut<[u8]> for ImageFile {
     }
 }
 
-/// One stand-in at a time.
+fn watch(path: &Path) -> Option<Inotify> {
+    let writes = Inotify::init(InitFlags::IN_NONBLOCK | InitFlags::IN_CLOEXEC).ok()?;
+    writes.add_watch(path, AddWatchFlags::IN_MODIFY).ok()?;
+    Some(writes)
+}
+
+/// One stand-in at a time; one that was just killed is waited for.
 fn lock(file: &File, path: &Path) -> Outcome<()> {
-    match flock(file.as_raw_fd(), FlockArg::LockExclusiveNonblock) {
+    let mut locked = Ok(());
+    wait_for(DYING, || {
+        locked = flock(file.as_raw_fd(), FlockArg::LockExclusiveNonblock);
+        locked != Err(Errno::EWOULDBLOCK)
+    });
+    match locked {
         Ok(()) => Ok(()),
         Err(Errno::EWOULDBLOCK) => Err(Failure::new(
             format!("the image {} is in use by another stand-in", shown(path)),

@@ -1,12 +1,15 @@
 //! A slot's link: a name that stays the same, and leads to this stand-in's port or nowhere.
 
 use crate::failure::{Explain, Failure, Outcome};
-use crate::registry::{self, Entry};
-use crate::text::shown;
+use crate::registry::{self, wait_for, Entry, DYING};
+use crate::text::{shown, word};
+use nix::libc;
 use std::fs;
 use std::io;
 use std::os::unix::fs::symlink;
 use std::path::{Path, PathBuf};
+
+const NO_NAME: &str = "give a name in a folder that is there and may be written";
 
 pub struct Link {
     path: PathBuf,
@@ -21,17 +24,25 @@ enum Found {
     /// A stand-in's link, and the number of its process.
     Owned(String),
     Other,
+    /// It cannot be told.
+    Unseen(io::Error),
 }
 
 fn look(path: &Path) -> Found {
     let target = match fs::read_link(path) {
         Ok(target) => target,
-        Err(error) if error.kind() == io::ErrorKind::NotFound => return Found::Nothing,
-        Err(_) => return Found::Other,
+        Err(error) => {
+            return match error.raw_os_error() {
+                Some(libc::ENOENT) => Found::Nothing,
+                Some(libc::EINVAL) => Found::Other, // it is no link
+                _ => Found::Unseen(error),
+            };
+        }
     };
     match registry::entry_of(&target) {
-        Some(entry) if registry::alive(&entry) => Found::Owned(registry::process_of(&entry)),
-        Some(_) => Found::Stale,
+        // an owner that was just killed is waited for
+        Some(entry) if wait_for(DYING, || !registry::alive(&entry)) => Found::Stale,
+        Some(entry) => Found::Owned(registry::process_of(&entry)),
         None => Found::Other,
     }
 }
@@ -53,7 +64,7 @@ pub fn clear(path: &Path) -> Outcome<()> {
             ),
             format!(
                 "give another name, or end that one first: indraveck stop {}",
-                shown(path)
+                word(path)
             ),
         )),
         Found::Other => Err(Failure::new(
@@ -63,6 +74,10 @@ pub fn clear(path: &Path) -> Outcome<()> {
             ),
             "give another name, or remove it; it was left as it is",
         )),
+        Found::Unseen(error) => Err(error).explain(
+            || format!("the link {} cannot be made", shown(path)),
+            NO_NAME,
+        ),
     }
 }
 
@@ -71,7 +86,7 @@ impl Link {
         let target = entry.port();
         symlink(&target, path).explain(
             || format!("the link {} cannot be made", shown(path)),
-            "give a name in a folder that is there and may be written",
+            NO_NAME,
         )?;
         Ok(Link {
             path: path.to_path_buf(),

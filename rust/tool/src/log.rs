@@ -5,7 +5,13 @@ use crate::failure::{Explain, Failure, Outcome};
 use crate::number::counted;
 use crate::output::Output;
 use crate::text;
-use std::fs::OpenOptions;
+use nix::fcntl::{fcntl, FcntlArg, OFlag};
+use nix::libc;
+use std::fs::{File, OpenOptions};
+use std::io;
+use std::os::unix::fs::OpenOptionsExt;
+use std::os::unix::io::{AsRawFd, RawFd};
+use std::path::Path;
 use std::time::{SystemTime, UNIX_EPOCH};
 
 /// Something that happened: in words, and as fields for a program.
@@ -70,11 +76,13 @@ fn lost(count: u64) -> Event {
 }
 
 /// Where events go, and what people see of them on standard error.
+#[derive(Clone)]
 pub struct Log {
     events: Option<Output>,
     json: bool,
     /// What people are told without a log on standard error.
     people: Option<Output>,
+    fd: Option<RawFd>,
 }
 
 impl Log {
@@ -91,15 +99,16 @@ impl Log {
                 "let the tool open more files",
             )
         };
+        let mut fd = None;
         let (events, people) = match wanted.place() {
             None => (None, Some(standard(|_| String::new())?)),
             Some(None) => (Some(standard(lost_line)?), None),
             Some(Some(path)) => {
-                let file = OpenOptions::new().append(true).create(true).open(path);
-                let file = file.explain(
+                let file = open_file(path).explain(
                     || format!("the log {} cannot be opened", text::shown(path)),
                     "give a file that may be written, or --log alone for standard error",
                 )?;
+                fd = Some(file.as_raw_fd());
                 let people = standard(|_| String::new())?;
                 (Some(Output::to(file, lost_line)), Some(people))
             }
@@ -108,7 +117,17 @@ impl Log {
             events,
             json,
             people,
+            fd,
         })
+    }
+
+    /// The log's file, for whoever cannot go by way of it; none for standard error.
+    pub fn fd(&self) -> Option<RawFd> {
+        self.fd
+    }
+
+    pub fn is_json(&self) -> bool {
+        self.json
     }
 
     pub fn tell(&self, event: &Event) {
@@ -149,6 +168,18 @@ impl Log {
             output.finish();
         }
     }
+}
+
+/// A file to add to. A named pipe that nobody reads is an error here, instead of a start that waits for its reader.
+fn open_file(path: &Path) -> io::Result<File> {
+    let file = OpenOptions::new()
+        .append(true)
+        .create(true)
+        .custom_flags(libc::O_NONBLOCK)
+        .open(path)?;
+    // the thread that writes may wait
+    fcntl(file.as_raw_fd(), FcntlArg::F_SETFL(OFlag::O_APPEND))?;
+    Ok(file)
 }
 
 /// The time of day, as 2026-11-15T20:15:00.123Z.

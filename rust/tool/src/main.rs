@@ -4,6 +4,7 @@ mod cli;
 mod control;
 mod failure;
 mod feed;
+mod files;
 mod image;
 mod line;
 mod link;
@@ -27,6 +28,7 @@ use clap::Parser;
 use cli::{Cli, Command, Images, New, Profiles};
 use control::Ask;
 use failure::{Failure, Outcome};
+use signals::Signals;
 use std::process::exit;
 
 const DONE: i32 = 0;
@@ -42,20 +44,28 @@ fn main() {
         ));
         exit(NOT_DONE);
     }));
+    // as early as can be: until then a signal ends the tool in the system's way
+    let serving = std::env::args_os()
+        .nth(1)
+        .map_or(false, |word| word == "serve");
+    let signals = serving.then(Signals::catch);
     // at once, whatever a thread that writes is waiting for
     exit(match Cli::try_parse() {
-        Ok(cli) => status(run(cli.command)),
+        Ok(cli) => status(run(cli.command, signals)),
         Err(wrong) if wrong.use_stderr() => {
-            output::tell_people(wrong.to_string().trim_end());
+            output::tell_people(&text::shown_lines(&wrong.to_string()));
             WRONG_COMMAND_LINE
         }
         Err(help) => status(print::all(&help.to_string())),
     });
 }
 
-fn run(command: Command) -> Outcome<()> {
+fn run(command: Command, signals: Option<Outcome<Signals>>) -> Outcome<()> {
     match command {
-        Command::Serve(arguments) => serve::run(&arguments),
+        Command::Serve(arguments) => {
+            let signals = signals.unwrap_or_else(Signals::catch)?;
+            serve::run(&arguments, signals)
+        }
         Command::Reset(slot) => slot::run(&slot.slot, Ask::Reset),
         Command::Status(arguments) => slot::status(&arguments),
         Command::Stop(slot) => slot::run(&slot.slot, Ask::Stop),

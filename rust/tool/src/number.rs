@@ -14,7 +14,7 @@ pub fn parse(text: &str) -> Result<u32, String> {
     let prefixed = plain
         .strip_prefix("0x")
         .or_else(|| plain.strip_prefix("0X"));
-    let hexadecimal = prefixed.or_else(|| plain.strip_suffix('h'));
+    let hexadecimal = prefixed.or_else(|| plain.strip_suffix(['h', 'H']));
     let (digits, radix) = match hexadecimal {
         Some(digits) => (digits.to_string(), 16),
         None => (ungrouped(&plain).ok_or_else(wrong)?, 10),

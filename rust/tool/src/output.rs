@@ -152,19 +152,33 @@ impl Lines {
     fn put(&mut self, line: &str) -> io::Result<()> {
         let start = if self.broken { "\n" } else { "" };
         let text = format!("{}{}\n", start, line);
-        let mut rest = text.as_bytes();
-        while !rest.is_empty() {
-            match self.file.write(rest) {
-                Ok(0) => return Err(io::ErrorKind::WriteZero.into()),
-                Ok(count) => {
-                    rest = &rest[count..];
-                    self.broken = !rest.is_empty();
-                }
+        let mut written = 0;
+        while written < text.len() {
+            match self.file.write(&text.as_bytes()[written..]) {
+                Ok(0) => return Err(self.take_back(written, io::ErrorKind::WriteZero.into())),
+                Ok(count) => written += count,
                 Err(error) if error.kind() == io::ErrorKind::Interrupted => {}
-                Err(error) => return Err(error),
+                Err(error) => return Err(self.take_back(written, error)),
             }
         }
+        self.broken = false;
         Ok(())
+    }
+
+    /// A line that did not fit whole is taken back where that can be done; elsewhere the next one starts a line of its own.
+    fn take_back(&mut self, written: usize, error: io::Error) -> io::Error {
+        if written > 0 {
+            let file = self.file.metadata();
+            let whole = file.map(|file| (file.is_file(), file.len()));
+            let taken_back = match whole {
+                Ok((true, length)) if length >= written as u64 => {
+                    self.file.set_len(length - written as u64).is_ok()
+                }
+                _ => false,
+            };
+            self.broken |= !taken_back;
+        }
+        error
     }
 }
 

@@ -9,7 +9,8 @@ use nix::libc;
 use nix::pty::{grantpt, posix_openpt, ptsname_r, unlockpt, PtyMaster};
 use nix::sys::inotify::{AddWatchFlags, InitFlags, Inotify};
 use nix::sys::termios::{
-    cfmakeraw, cfsetspeed, tcflush, tcgetattr, tcsetattr, BaudRate, FlushArg, SetArg,
+    cfmakeraw, cfsetspeed, tcflow, tcflush, tcgetattr, tcsetattr, BaudRate, FlowArg, FlushArg,
+    SetArg,
 };
 use nix::unistd::{chown, Gid, Group};
 use std::fs::{self, File, OpenOptions, Permissions};
@@ -145,6 +146,20 @@ impl Port {
             (device, FlushArg::TCIFLUSH),
         ] {
             let _ = tcflush(end, queue);
+        }
+    }
+
+    /// Undoes what a client may have left that keeps the next one from talking: output held back, the port to itself, or a mode in which
+    /// bytes are changed or echoed. The rate and the way of waiting are the client's own and stay.
+    pub fn restore(&self) {
+        let script = self.script.as_raw_fd();
+        let _ = tcflow(script, FlowArg::TCOON);
+        unsafe { libc::ioctl(script, libc::TIOCNXCL) };
+        if let Ok(mut settings) = tcgetattr(script) {
+            let waiting = settings.control_chars;
+            cfmakeraw(&mut settings);
+            settings.control_chars = waiting;
+            let _ = tcsetattr(script, SetArg::TCSANOW, &settings);
         }
     }
 

@@ -22,12 +22,12 @@ const SHARED: &str = "/tmp";
 const FOLDER: &str = "indraveck-";
 const ENTRY: &str = "stand-in-";
 const TOKEN_DIGITS: usize = 16;
-const NO_ROOM: &str =
-    "see that /tmp may be written, or set INDRAVECK_RUN to a folder of your own for all stand-ins";
+const NO_ROOM: &str = "see that /tmp may be written, and that the tool may open more files";
 
-/// How long another stand-in may take to start, and a killed one to be gone.
+/// How long another stand-in may take to start.
 const STARTING: Duration = Duration::from_secs(20);
-const DYING: Duration = Duration::from_secs(1);
+/// How long one that was killed may take to be gone.
+pub const DYING: Duration = Duration::from_secs(1);
 
 pub struct Registry {
     folder: PathBuf,
@@ -38,10 +38,7 @@ pub struct Alone(#[allow(dead_code)] File);
 
 impl Registry {
     pub fn open() -> Outcome<Registry> {
-        let folder = match std::env::var_os("INDRAVECK_RUN") {
-            Some(folder) => PathBuf::from(folder),
-            None => Path::new(SHARED).join(format!("{}{}", FOLDER, geteuid())),
-        };
+        let folder = Path::new(SHARED).join(format!("{}{}", FOLDER, geteuid()));
         let doing = || format!("the folder {} cannot be used", shown(&folder));
         match make_folder(&folder) {
             Err(error) if error.kind() != io::ErrorKind::AlreadyExists => {
@@ -57,7 +54,7 @@ impl Registry {
                     "{} is no folder of this account's that only it may write to",
                     shown(&folder)
                 ),
-                "remove it, or set INDRAVECK_RUN to a folder of your own for all stand-ins",
+                "remove it, or have it removed; no other place will do, since all stand-ins have to find each other",
             ));
         }
         Ok(Registry { folder })
@@ -206,7 +203,7 @@ fn lock(file: &File, how: FlockArg) -> bool {
 }
 
 /// Tries until it holds, for so long.
-fn wait_for(time: Duration, mut holds: impl FnMut() -> bool) -> bool {
+pub fn wait_for(time: Duration, mut holds: impl FnMut() -> bool) -> bool {
     let until = Instant::now() + time;
     loop {
         if holds() {
@@ -231,6 +228,8 @@ pub struct Entry {
     folder: PathBuf,
     // locked as long as the process lives
     _owner: File,
+    // locked too, which keeps programs that tidy up /tmp away from an old entry
+    _held: File,
 }
 
 impl Entry {
@@ -244,9 +243,12 @@ impl Entry {
             return Err(io::Error::last_os_error());
         }
         writeln!(owner, "{}", std::process::id())?;
+        let held = File::open(&folder)?;
+        lock(&held, FlockArg::LockSharedNonblock);
         Ok(Entry {
             folder,
             _owner: owner,
+            _held: held,
         })
     }
 

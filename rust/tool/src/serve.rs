@@ -3,6 +3,7 @@
 use crate::cli::Serve;
 use crate::control::{Ask, Caller, Control};
 use crate::failure::{Explain, Outcome};
+use crate::files;
 use crate::link::{self, Link};
 use crate::log::{self, Event, Log};
 use crate::number::{bytes, counted, grouped};
@@ -11,7 +12,7 @@ use crate::port::{Port, Visit};
 use crate::registry::{Entry, Registry};
 use crate::signals::{self, Signals, Wish};
 use crate::stand_in::StandIn;
-use crate::text::shown;
+use crate::text::{shown, word};
 use crate::words;
 use nix::errno::Errno;
 use nix::poll::{poll, PollFd, PollFlags};
@@ -21,11 +22,20 @@ const PORT_LOST: &str = "start it again on the same image; what was answered OK 
 /// More than a pseudo-terminal's queues hold: whoever goes on sending does not hold up a reset.
 const MOST_BEFORE_RESET: usize = 1 << 18;
 
-pub fn run(arguments: &Serve) -> Outcome<()> {
-    let signals = Signals::catch()?;
-    signals::watch_the_map()?;
+pub fn run(arguments: &Serve, signals: Signals) -> Outcome<()> {
+    files::apart(&[
+        ("profile", Some(&arguments.target.profile)),
+        ("image", Some(&arguments.target.image)),
+        ("link", arguments.link.as_deref()),
+        ("log", arguments.logging.place().flatten()),
+    ])?;
     let log = Log::open(&arguments.logging)?;
-    let stand_in = StandIn::start(&arguments.target, log)?;
+    serve(arguments, signals, &log).map_err(|failure| log.failed(failure))
+}
+
+fn serve(arguments: &Serve, signals: Signals, log: &Log) -> Outcome<()> {
+    signals::watch_the_map(log.fd(), log.is_json())?;
+    let stand_in = StandIn::start(&arguments.target, log.clone())?;
     let place = Place::take(arguments)?;
     let says = Output::to_standard(1, |_| String::new()).explain(
         || "standard output cannot be used".to_string(),
@@ -38,14 +48,11 @@ pub fn run(arguments: &Serve) -> Outcome<()> {
         signals,
         says,
         waiting: Vec::new(),
-        clients: 0,
         rate_told: None,
         since: log::now(),
     };
     server.announce();
-    let callers = server
-        .answer_until_ended()
-        .map_err(|failure| server.stand_in.log.failed(failure))?;
+    let callers = server.answer_until_ended()?;
     server.end(callers);
     Ok(())
 }
@@ -90,7 +97,6 @@ struct Server<'a> {
     says: Output,
     /// Answers that nobody has taken yet. While there are any nothing is read, as the device does one thing after the other.
     waiting: Vec<u8>,
-    clients: u64,
     /// The port's and the line's rate that were said to differ.
     rate_told: Option<(u32, u32)>,
     since: String,
@@ -113,10 +119,12 @@ impl Server<'_> {
             .text("port", self.place.port.name.display().to_string())
             .number("process", process.into());
         self.stand_in.log.announce(&event);
-        let slot = match &self.arguments.link {
-            Some(link) => shown(link),
-            None => self.place.port.name.display().to_string(),
-        };
+        let slot = word(
+            self.arguments
+                .link
+                .as_ref()
+                .unwrap_or(&self.place.port.name),
+        );
         let words = format!(
             "reset the device: indraveck reset {0}; end: Ctrl-C or indraveck stop {0}",
             slot
@@ -136,10 +144,6 @@ impl Server<'_> {
                 }
                 None => {}
             }
-            let stopping = self.heed_callers()?;
-            if !stopping.is_empty() {
-                return Ok(stopping);
-            }
             let visits = self.place.port.visits();
             self.tell(&visits, Visit::Came);
             if self.waiting.is_empty() {
@@ -150,6 +154,10 @@ impl Server<'_> {
                 let sent = self.place.port.write(&self.waiting);
                 let sent = sent.explain(|| "the port is gone".to_string(), PORT_LOST)?;
                 self.waiting.drain(..sent);
+            }
+            let stopping = self.heed_callers()?;
+            if !stopping.is_empty() {
+                return Ok(stopping);
             }
             // silence is explained when it has lasted, or when whoever waited has gone
             let quiet = self.stand_in.quiet_at();
@@ -261,6 +269,7 @@ impl Server<'_> {
         thrown += self.waiting.len();
         self.waiting.clear();
         self.place.port.empty();
+        self.place.port.restore();
         self.stand_in.reset();
         self.says.say("reset");
         Ok(format!(
@@ -286,19 +295,13 @@ impl Server<'_> {
         Ok(stopping)
     }
 
-    fn tell(&mut self, visits: &[Visit], which: Visit) {
+    /// Who comes and goes while nobody looks may be told as one: they are not counted.
+    fn tell(&self, visits: &[Visit], which: Visit) {
         for _ in visits.iter().filter(|visit| **visit == which) {
-            let words = match which {
-                Visit::Came => {
-                    self.clients += 1;
-                    "a client opened the port"
-                }
-                Visit::Went => {
-                    self.clients = self.clients.saturating_sub(1);
-                    "a client closed the port"
-                }
+            let event = match which {
+                Visit::Came => Event::new("opened", "a client opened the port"),
+                Visit::Went => Event::new("closed", "a client closed the port"),
             };
-            let event = Event::new("client", words).number("open", self.clients);
             self.stand_in.log.tell(&event);
         }
     }
@@ -326,10 +329,7 @@ impl Server<'_> {
         found.extend(stand_in.open().map(|open| ("begun", open.words())));
         let baud = |rate: u32| format!("{} baud", grouped(rate.into()));
         found.push(("line", baud(stand_in.line_rate())));
-        if let Some(rate) = self.place.port.rate() {
-            let clients = counted(self.clients, "client");
-            found.push(("port", format!("{}, opened by {} now", baud(rate), clients)));
-        }
+        found.extend(self.place.port.rate().map(|rate| ("port", baud(rate))));
         let answers = format!(
             "{} sent, {} not taken yet, {}",
             grouped(stand_in.answered),
@@ -337,10 +337,11 @@ impl Server<'_> {
             counted(stand_in.resets, "reset")
         );
         found.push(("answers", answers));
-        let lost = stand_in.log.lost();
-        if lost > 0 {
-            let lines = counted(lost, "line");
-            found.push(("log", format!("{} could not be written", lines)));
+        for (name, lost) in [("log", stand_in.log.lost()), ("output", self.says.lost())] {
+            if lost > 0 {
+                let lines = counted(lost, "line");
+                found.push((name, format!("{} could not be written", lines)));
+            }
         }
         found
     }

@@ -6,6 +6,7 @@ use crate::image;
 use crate::number::{address, bytes, grouped, hex};
 use crate::print;
 use crate::profile_file::{self, Named};
+use crate::words;
 use indraveck::{Area, Kind, Profile};
 use std::path::Path;
 
@@ -17,7 +18,7 @@ pub fn check(path: &Path) -> Outcome<()> {
         grouped(named.profile.sci.into()),
         grouped(named.profile.rmb.into()),
         named.profile.typ,
-        hex(&named.profile.bfv.to_be_bytes())
+        words::bfv((named.profile.bfv >> 8) as u8, named.profile.bfv as u8)
     );
     text += &format!("  {}\n", window(&named.profile));
     for (number, area) in named.profile.areas.iter().enumerate() {

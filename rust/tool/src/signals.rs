@@ -6,6 +6,7 @@ use nix::sys::signal::{sigaction, signal, SaFlags, SigAction, SigHandler, SigSet
 use nix::sys::signalfd::{SfdFlags, SignalFd};
 use std::mem::MaybeUninit;
 use std::os::unix::io::{AsRawFd, RawFd};
+use std::sync::atomic::{AtomicBool, AtomicI32, Ordering};
 
 pub enum Wish {
     End,
@@ -67,24 +68,46 @@ pub fn ignore_file_limits() {
 }
 
 const CUT_SHORT: &[u8] = b"indraveck: the image file was cut short by another program while it was in use\n  what to do: give the file its length back, and do not count the last request as done\n";
+const CUT_SHORT_JSON: &[u8] = b"{\"time\":null,\"event\":\"failed\",\"text\":\"the image file was cut short by another program while it was in use\"}\n";
+
+/// Where the log is, if it is a file, and whether it is in JSON: all that the handler knows.
+static LOG: AtomicI32 = AtomicI32::new(-1);
+static JSON: AtomicBool = AtomicBool::new(false);
 
 extern "C" fn cut_short(_: libc::c_int) {
-    // only what a signal handler may call; a reader that does not read is not waited for
+    let file = LOG.load(Ordering::Relaxed);
+    let logged = if JSON.load(Ordering::Relaxed) {
+        CUT_SHORT_JSON
+    } else {
+        CUT_SHORT
+    };
+    if file >= 0 {
+        put(file, logged);
+        put(2, CUT_SHORT);
+    } else {
+        put(2, logged);
+    }
+    unsafe { libc::_exit(1) }
+}
+
+/// Only what a signal handler may call; a reader that does not read is not waited for.
+fn put(fd: RawFd, text: &[u8]) {
     let mut end = libc::pollfd {
-        fd: 2,
+        fd,
         events: libc::POLLOUT,
         revents: 0,
     };
     unsafe {
         if libc::poll(&mut end, 1, 100) == 1 {
-            libc::write(2, CUT_SHORT.as_ptr().cast(), CUT_SHORT.len());
+            libc::write(fd, text.as_ptr().cast(), text.len());
         }
-        libc::_exit(1);
     }
 }
 
 /// A mapped file that another program cuts short answers with SIGBUS: it ends the tool with a word instead of silently.
-pub fn watch_the_map() -> Outcome<()> {
+pub fn watch_the_map(log: Option<RawFd>, json: bool) -> Outcome<()> {
+    LOG.store(log.unwrap_or(-1), Ordering::Relaxed);
+    JSON.store(json, Ordering::Relaxed);
     let action = SigAction::new(
         SigHandler::Handler(cut_short),
         SaFlags::empty(),

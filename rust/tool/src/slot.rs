@@ -19,6 +19,11 @@ const PATIENCE: Duration = Duration::from_secs(30);
 const STARTING: Duration = Duration::from_secs(10);
 
 pub fn run(slot: &Path, ask: Ask) -> Outcome<()> {
+    print::all(&told(slot, ask)?)
+}
+
+/// What a stand-in says when it has done what was asked.
+fn told(slot: &Path, ask: Ask) -> Outcome<String> {
     let entry = entry(slot)?;
     let answer = talk(&registry::control_of(&entry), ask).map_err(|error| {
         if registry::alive(&entry) {
@@ -29,7 +34,7 @@ pub fn run(slot: &Path, ask: Ask) -> Outcome<()> {
     })?;
     // the first line alone says that it was done
     match answer.split_once('\n') {
-        Some((DONE, text)) => print::all(&format!("{}: {}", shown(slot), text)),
+        Some((DONE, text)) => Ok(format!("{}: {}", shown(slot), text)),
         _ => Err(Failure::new(
             format!("the stand-in of {} ended before it answered", shown(slot)),
             "do not count it as done; its own log says why it ended",
@@ -40,16 +45,18 @@ pub fn run(slot: &Path, ask: Ask) -> Outcome<()> {
 pub fn status(arguments: &Status) -> Outcome<()> {
     let slot = &arguments.slot.slot;
     let until = Instant::now() + STARTING;
-    while arguments.wait && entry(slot).is_err() && Instant::now() < until {
-        sleep(Duration::from_millis(20));
+    loop {
+        match told(slot, Ask::Status) {
+            Err(_) if arguments.wait && Instant::now() < until => sleep(Duration::from_millis(20)),
+            said => return print::all(&said?),
+        }
     }
-    run(slot, Ask::Status)
 }
 
 fn gone(slot: &Path) -> Failure {
     Failure::new(
         format!("the stand-in of {} is gone", shown(slot)),
-        "start it again with the same --link, which takes the link over",
+        "start it again with the same --link, which takes the link over; if its image is still in use, end the process that has it",
     )
 }
 
@@ -88,9 +95,12 @@ fn entry(slot: &Path) -> Outcome<PathBuf> {
         Err(_) => {}
     }
     let port = fs::canonicalize(slot).unwrap_or_else(|_| slot.to_path_buf());
-    Registry::open()?
-        .on_port(&port)
-        .ok_or_else(|| nobody(format!("{} is no stand-in's link or port", shown(slot))))
+    Registry::open()?.on_port(&port).ok_or_else(|| {
+        nobody(format!(
+            "{} is no stand-in's link, and no port of one of this account's",
+            shown(slot)
+        ))
+    })
 }
 
 /// Everything that is answered until the other end hangs up: a stand-in that was told to stop does so when it is gone.

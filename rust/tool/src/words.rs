@@ -129,8 +129,13 @@ fn signature(data: &[u8]) -> String {
         grouped(four(&data[4..8]).into()),
         data[8],
         data[9],
-        hex(&data[10..12])
+        bfv(data[10], data[11])
     )
+}
+
+/// A boot firmware version.
+pub fn bfv(high: u8, low: u8) -> String {
+    format!("{:02X}{:02X}h", high, low)
 }
 
 fn area(data: &[u8]) -> String {

@@ -6,7 +6,11 @@ use common::{
     command, data, packet, pattern, range, words, Client, Folder, Serving, AWAKE, WRITTEN,
 };
 use nix::sys::signal::Signal;
+use nix::sys::termios::{tcflow, tcgetattr, tcsetattr, FlowArg, LocalFlags, OutputFlags, SetArg};
 use std::fs;
+use std::io::{Read, Write};
+use std::net::Shutdown;
+use std::os::unix::net::UnixStream;
 use std::time::Duration;
 
 /// What a command says, once it is done.
@@ -144,7 +148,7 @@ fn status_says_what_a_stand_in_is_doing() {
         "  stage    writing, 256 bytes at 00000080h and on to go",
         "  begun    20 of the 134 bytes of a packet have come",
         "  line     9,578 baud",
-        "  port     9,600 baud, opened by 1 client now",
+        "  port     9,600 baud",
         "  answers  3 sent, 0 bytes not taken yet, 0 resets",
     ] {
         assert!(
@@ -178,6 +182,86 @@ fn stop_returns_when_all_is_let_go_of() {
     }
 }
 
+/// Callers who connect and say nothing, or nothing sensible, keep nobody else out.
+#[test]
+fn callers_who_say_nothing_keep_nobody_out() {
+    let folder = Folder::new();
+    let serving = Serving::start(&folder, "flash.bin", &["--link", "slot"]);
+    let entry = fs::read_link(folder.path("slot")).expect("the link");
+    let socket = entry.with_file_name("control");
+    let silent: Vec<UnixStream> = (0..100)
+        .map(|_| UnixStream::connect(&socket).expect("the socket"))
+        .collect();
+    for wrong in [&b"erase\n"[..], &[0xFF; 500], b"\n", b"reset"] {
+        let mut caller = UnixStream::connect(&socket).expect("the socket");
+        caller.write_all(wrong).expect("some bytes");
+        caller.shutdown(Shutdown::Write).expect("their end");
+        let mut answer = Vec::new();
+        // hung up on, with nothing said to be done
+        let _ = caller.read_to_end(&mut answer);
+        assert_eq!(answer, b"");
+    }
+    assert!(told(&folder, &["status", "slot"]).contains(" 0 resets"));
+    assert!(told(&folder, &["stop", "slot"]).starts_with("slot: ended; "));
+    assert_eq!(serving.ended(), Some(0));
+    drop(silent);
+}
+
+/// What was asked by somebody who has given up since is not done any more.
+#[test]
+fn a_wish_whose_caller_has_gone_is_dropped() {
+    let folder = Folder::new();
+    let serving = Serving::start(&folder, "flash.bin", &["--link", "slot"]);
+    let entry = fs::read_link(folder.path("slot")).expect("the link");
+    serving.signal(Signal::SIGSTOP);
+    for wish in ["reset\n", "stop\n"] {
+        let mut caller = UnixStream::connect(entry.with_file_name("control")).expect("the socket");
+        caller.write_all(wish.as_bytes()).expect("a wish");
+    }
+    serving.signal(Signal::SIGCONT);
+    assert!(told(&folder, &["status", "slot"]).contains(" 0 resets"));
+    assert_eq!(serving.end(Signal::SIGTERM), Some(0));
+}
+
+/// Killed, started again at once and asked for: nobody has to wait for the killed one to be gone.
+#[test]
+fn a_killed_stand_in_is_started_again_at_once() {
+    let folder = Folder::new();
+    let mut serving = Serving::start(&folder, "flash.bin", &["--link", "slot"]);
+    for _ in 0..20 {
+        serving.signal(Signal::SIGKILL);
+        let next = Serving::start(&folder, "flash.bin", &["--link", "slot"]);
+        let status = told(&folder, &["status", "slot", "--wait"]);
+        assert!(
+            status.contains(&format!("process {},", next.process())),
+            "{}",
+            status
+        );
+        assert_eq!(serving.ended(), None);
+        serving = next;
+    }
+}
+
+/// A client that held back its output, wanted the port for itself and set it for a person: after a reset the next one can talk.
+#[test]
+fn what_a_client_did_to_the_port_does_not_outlive_a_reset() {
+    let folder = Folder::new();
+    let mut serving = Serving::start(&folder, "flash.bin", &["--link", "slot"]);
+    let spoiler = Client::open(&folder.path("slot"));
+    let mut settings = tcgetattr(spoiler.fd()).expect("the port's settings");
+    let lines = LocalFlags::ICANON | LocalFlags::ECHO;
+    settings.local_flags.insert(lines);
+    settings.output_flags.insert(OutputFlags::OPOST);
+    tcsetattr(spoiler.fd(), SetArg::TCSANOW, &settings).expect("the port's settings");
+    tcflow(spoiler.fd(), FlowArg::TCOOFF).expect("output held back");
+    unsafe { nix::libc::ioctl(spoiler.fd(), nix::libc::TIOCEXCL) };
+    drop(spoiler);
+    serving.reset();
+    let mut client = Client::open(&folder.path("slot"));
+    talk(&mut client, 0);
+    assert_eq!(serving.end(Signal::SIGTERM), Some(0));
+}
+
 #[test]
 fn nobody_is_told_anything_behind_a_name_without_a_stand_in() {
     let folder = Folder::new();
@@ -187,10 +271,13 @@ fn nobody_is_told_anything_behind_a_name_without_a_stand_in() {
     for (slot, wrong) in [
         ("slot", "indraveck: the stand-in of slot is gone\n"),
         ("nowhere", "indraveck: there is no slot nowhere\n"),
-        ("file", "indraveck: file is no stand-in's link or port\n"),
+        (
+            "file",
+            "indraveck: file is no stand-in's link, and no port of one of this account's\n",
+        ),
         (
             "/dev/null",
-            "indraveck: /dev/null is no stand-in's link or port\n",
+            "indraveck: /dev/null is no stand-in's link, and no port of one of this account's\n",
         ),
     ] {
         for ask in ["reset", "status", "stop"] {

@@ -2,9 +2,8 @@
 
 mod common;
 
-use common::{tool, Folder};
+use common::{tool, Disk, Folder};
 use std::fs::{self, File};
-use std::path::Path;
 use std::process::{Command, Output};
 
 /// The words that start the tool, for a shell.
@@ -51,35 +50,12 @@ fn an_image_that_cannot_be_written_whole_is_not_left_behind() {
     assert!(!folder.path("flash.bin").exists());
 }
 
-/// A small disk of its own, if this machine lets a test have one.
-struct Disk<'a>(&'a Path);
-
-impl Disk<'_> {
-    fn mount(at: &Path) -> Option<Disk> {
-        fs::create_dir(at).expect("a folder");
-        let mounted = Command::new("mount")
-            .args(["-t", "tmpfs", "-o", "size=96k", "none"])
-            .arg(at)
-            .output();
-        match mounted {
-            Ok(output) if output.status.success() => Some(Disk(at)),
-            _ => None,
-        }
-    }
-}
-
-impl Drop for Disk<'_> {
-    fn drop(&mut self) {
-        let _ = Command::new("umount").arg(self.0).status();
-    }
-}
-
 /// An image with holes needs room when it is written: that is made sure of before the first answer, not found out by a write.
 #[test]
 fn a_full_disk_is_found_before_the_first_answer() {
     let folder = Folder::new();
     let place = folder.path("disk");
-    let _disk = match Disk::mount(&place) {
+    let _disk = match Disk::mount(&place, "96k") {
         Some(disk) => disk,
         None => {
             println!("no disk can be mounted here: this part needs root");

@@ -198,3 +198,42 @@ fn the_comparison_notices_a_difference() {
     assert!(!matches("a", "a b"));
     assert!(!matches("b", "a b"));
 }
+
+#[test]
+fn no_control_character_of_a_command_line_is_printed() {
+    let folder = Folder::new();
+    let odd = "a\u{1B}[31mb\u{7}";
+    let range = format!("0-{}", odd);
+    let files = ["--profile", "bench.toml", "--image", "flash.bin"];
+    for arguments in [
+        vec![odd],
+        vec!["--", odd],
+        vec!["reset", odd],
+        vec!["profile", "check", odd],
+        [&["image", "show"], &files[..], &["--range", &range]].concat(),
+        [&["image", "new"], &files[..], &["--id", odd]].concat(),
+        [&["serve"], &files[..], &["--port-mode", odd]].concat(),
+        [&["serve"], &files[..], &["--create", "--port-group", odd]].concat(),
+        [
+            &["serve"],
+            &files[..],
+            &["--create", "--log", &format!("nowhere/{}", odd)],
+        ]
+        .concat(),
+        [
+            &["serve"],
+            &files[..],
+            &["--create", "--link", &format!("nowhere/{}", odd)],
+        ]
+        .concat(),
+    ] {
+        let output = folder.run(&arguments);
+        let error = String::from_utf8_lossy(&output.stderr).into_owned();
+        assert!(matches!(output.status.code(), Some(1 | 2)), "{}", error);
+        assert!(
+            !error.contains('\u{1B}') && !error.contains('\u{7}'),
+            "{:?}",
+            error
+        );
+    }
+}

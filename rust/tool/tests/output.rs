@@ -3,8 +3,8 @@
 mod common;
 
 use common::{
-    command, data, range, tool, wait_until, words, Client, Folder, Serving, AWAKE, SHOW_FLASH,
-    WRITTEN,
+    command, data, range, tool, wait_until, words, Client, Disk, Folder, Serving, AWAKE,
+    SHOW_FLASH, WRITTEN,
 };
 use nix::sys::signal::Signal;
 use nix::unistd::pipe;
@@ -112,6 +112,143 @@ fn a_reader_that_has_gone_and_a_full_disk_end_nothing() {
     }
 }
 
+/// A log into a named pipe: without a reader it is an error at the start, and a reader that stops reading holds up nothing.
+#[test]
+fn a_log_into_a_named_pipe_waits_for_nobody() {
+    let folder = Folder::new();
+    let pipe = folder.path("pipe");
+    nix::unistd::mkfifo(&pipe, nix::sys::stat::Mode::S_IRWXU).expect("a named pipe");
+    let serve = ["serve", "--profile", "bench.toml", "--image", "flash.bin"];
+    let refused = folder.run(&[&serve[..], &["--create", "--log", "pipe"]].concat());
+    assert_eq!(refused.status.code(), Some(1));
+    let error = String::from_utf8_lossy(&refused.stderr);
+    assert!(
+        error.starts_with("indraveck: the log pipe cannot be opened: "),
+        "{}",
+        error
+    );
+    let reader = OpenOptions::new().read(true).write(true).open(&pipe);
+    let reader = reader.expect("a reader that does not read");
+    let serving = Serving::start(&folder, "flash.bin", &["--log", "pipe"]);
+    let mut client = Client::open(&serving.port);
+    client.wake_up();
+    inquire(&mut client, 3_000);
+    assert_eq!(serving.end(Signal::SIGTERM), Some(0));
+    drop(reader);
+}
+
+/// A line that does not fit on a full disk is taken back: what is there can be read as JSON.
+#[test]
+fn a_log_on_a_full_disk_has_whole_lines_only() {
+    let folder = Folder::new();
+    let place = folder.path("disk");
+    let _disk = match Disk::mount(&place, "16k") {
+        Some(disk) => disk,
+        None => {
+            println!("no disk can be mounted here: this part needs root");
+            return;
+        }
+    };
+    let more = ["--log", "disk/slot.log", "--log-json"];
+    let serving = Serving::start(&folder, "flash.bin", &more);
+    let mut client = Client::open(&serving.port);
+    client.wake_up();
+    inquire(&mut client, 1_000);
+    assert_eq!(serving.end(Signal::SIGTERM), Some(0));
+    let log = fs::read_to_string(place.join("slot.log")).expect("the log");
+    assert!(log.len() > 10_000 && log.ends_with("}\n"), "{}", log.len());
+    assert!(log
+        .lines()
+        .all(|line| line.starts_with("{\"time\":") && line.ends_with('}')));
+}
+
+/// A start that fails is one object of the log, too.
+#[test]
+fn a_log_in_json_on_standard_error_is_nothing_but_json() {
+    let folder = Folder::new();
+    for more in [
+        &["--image", "missing.bin"][..],
+        &["--image", "a.bin", "--create", "--link", "nowhere/slot"],
+        &[
+            "--image",
+            "b.bin",
+            "--create",
+            "--port-group",
+            "no-such-group",
+        ],
+    ] {
+        let serve = ["serve", "--profile", "bench.toml", "--log-json"];
+        let refused = folder.run(&[&serve[..], more].concat());
+        assert_eq!(refused.status.code(), Some(1));
+        let said = String::from_utf8(refused.stderr).expect("words");
+        let failed = "\"event\":\"failed\",\"text\":\"";
+        assert!(
+            said.starts_with("{\"time\":") && said.contains(failed),
+            "{}",
+            said
+        );
+        assert!(
+            said.ends_with("}\n") && said.lines().count() == 1,
+            "{}",
+            said
+        );
+    }
+}
+
+/// One file for two purposes is refused before anything is written.
+#[test]
+fn a_log_does_not_go_into_the_image() {
+    let folder = Folder::new();
+    folder.write("flash.bin", &[0xFF; 65_792]);
+    symlink("flash.bin", folder.path("same.bin")).expect("a link");
+    let before = folder.read("bench.toml");
+    for (command, more, wrong) in [
+        (
+            "serve",
+            &["--log", "flash.bin"][..],
+            "flash.bin is given for the image and for the log",
+        ),
+        (
+            "feed",
+            &["--log", "./flash.bin"],
+            "./flash.bin is given for the image and for the log",
+        ),
+        (
+            "serve",
+            &["--log", "same.bin"],
+            "same.bin is given for the image and for the log",
+        ),
+        (
+            "serve",
+            &["--log", "bench.toml"],
+            "bench.toml is given for the profile and for the log",
+        ),
+        (
+            "serve",
+            &["--link", "x", "--log", "x"],
+            "x is given for the link and for the log",
+        ),
+        (
+            "serve",
+            &["--link", "flash.bin"],
+            "flash.bin is given for the image and for the link",
+        ),
+    ] {
+        let files = [command, "--profile", "bench.toml", "--image", "flash.bin"];
+        let refused = folder.run(&[&files[..], more].concat());
+        assert_eq!(refused.status.code(), Some(1), "{:?}", more);
+        let error = String::from_utf8_lossy(&refused.stderr);
+        assert!(
+            error.starts_with(&format!("indraveck: {}\n", wrong)),
+            "{}",
+            error
+        );
+    }
+    assert_eq!(folder.read("flash.bin"), [0xFF; 65_792]);
+    assert_eq!(folder.read("bench.toml"), before);
+    assert!(!folder.path("x").exists());
+}
+
 /// Neither the name of the port nor the word `reset` needs a reader.
 #[test]
 fn a_standard_output_that_nobody_reads_ends_nothing() {
@@ -209,22 +346,33 @@ fn a_standard_error_that_is_full_or_gone_changes_no_exit_status() {
 /// What another program can do to an image while it is served.
 fn harm(folder: &Folder, way: &str) {
     let image = folder.path("flash.bin");
+    let set_len = |length| {
+        let file = OpenOptions::new().write(true).open(&image);
+        file.and_then(|file| file.set_len(length))
+    };
     let done = match way {
         "removed or renamed" => fs::remove_file(&image),
         "replaced" => fs::write(folder.path("new.bin"), [0xFF; 65_792])
             .and_then(|()| fs::rename(folder.path("new.bin"), &image)),
-        _ => OpenOptions::new()
-            .write(true)
-            .open(&image)
-            .and_then(|file| file.set_len(65_791)),
+        // as cp does it
+        "written" => fs::copy(folder.path("other.bin"), &image).map(|_| ()),
+        "made longer" => set_len(65_793),
+        _ => set_len(65_791),
     };
     done.expect("another program");
 }
 
 #[test]
 fn an_image_that_is_not_there_any_more_is_noticed_before_the_next_ok() {
-    for way in ["removed or renamed", "replaced", "cut short"] {
+    for way in [
+        "removed or renamed",
+        "replaced",
+        "written",
+        "made longer",
+        "cut short",
+    ] {
         let folder = Folder::new();
+        folder.write("other.bin", &[0x5A; 65_792]);
         let serving = Serving::start(&folder, "flash.bin", &["--link", "slot"]);
         let mut client = Client::open(&serving.port);
         client.wake_up();

@@ -857,3 +857,62 @@ fn feed_answers_on_standard_output() {
         [&[0x42; 0x80][..], &[0xFF]].concat()
     );
 }
+
+/// Names are printed as they can be read, and nothing in them moves a cursor.
+#[test]
+fn no_control_character_of_a_name_is_printed() {
+    let folder = Folder::new();
+    folder.write("firmware.bin", &[0x5A; 0x80]);
+    let odd = "a\u{1B}[31mb\u{7}";
+    let port = folder.path(odd);
+    for (port, more) in [
+        (port.as_path(), &["firmware.bin"][..]),
+        (Path::new("slot"), &[odd]),
+        (Path::new("slot"), &["firmware.bin", "--id", odd]),
+        (Path::new("slot"), &["firmware.bin", "--address", odd]),
+    ] {
+        let output = flash(&folder, port, more);
+        assert_eq!(output.status.code(), Some(2), "{:?}", output);
+        let error = String::from_utf8_lossy(&output.stderr).into_owned();
+        assert!(error.contains("a\\u001B[31mb\\u0007"), "{:?}", error);
+        assert!(
+            !error.contains('\u{1B}') && !error.contains('\u{7}'),
+            "{:?}",
+            error
+        );
+    }
+}
+
+/// What is advised can be followed.
+#[test]
+fn a_total_erase_that_is_refused_says_what_helps() {
+    for (id, says) in [
+        (
+            "80ffee00112233445566778899aabbcc",
+            "doesn't allow a total erase, give it with --id",
+        ),
+        (
+            "ffffffffffffffffffffffffffffffff",
+            "has no ID stored, leave out --total-erase",
+        ),
+    ] {
+        let folder = Folder::new();
+        folder.write("firmware.bin", &[0x5A; 0x80]);
+        let new = [
+            "image",
+            "new",
+            "--profile",
+            "bench.toml",
+            "--image",
+            "flash.bin",
+            "--id",
+            id,
+        ];
+        assert_eq!(folder.run(&new).status.code(), Some(0));
+        let serving = Serving::start(&folder, "flash.bin", &[]);
+        let output = flash(&folder, &serving.port, &["firmware.bin", "--total-erase"]);
+        assert_eq!(output.status.code(), Some(1), "{:?}", output);
+        let text = String::from_utf8_lossy(&output.stdout).into_owned();
+        assert!(text.contains(says), "{}", text);
+    }
+}

@@ -68,7 +68,7 @@ fn the_line_examples_of_the_paper_are_answered() {
     let log = words(&folder.read("flash.bin.log"));
     for line in [
         "wake-up: C3h, the device is awake; no ID code is stored",
-        "signature (3Ah): SCI 60,000,000, RMB 4,000,000, 2 areas, type 01h, boot firmware 01 00",
+        "signature (3Ah): SCI 60,000,000, RMB 4,000,000, 2 areas, type 01h, boot firmware 0100h",
         "inquiry (00h): 00h OK",
         "inquiry (00h): C2h checksum error",
         "packet refused at its length 0: C1h packet error: wrong length, end byte or contents",

@@ -108,6 +108,29 @@ impl Drop for Folder {
     }
 }
 
+/// A small disk of its own, if this machine lets a test have one.
+pub struct Disk<'a>(&'a Path);
+
+impl Disk<'_> {
+    pub fn mount<'a>(at: &'a Path, size: &str) -> Option<Disk<'a>> {
+        fs::create_dir(at).expect("a folder");
+        let mounted = Command::new("mount")
+            .args(["-t", "tmpfs", "-o", &format!("size={}", size), "none"])
+            .arg(at)
+            .output();
+        match mounted {
+            Ok(output) if output.status.success() => Some(Disk(at)),
+            _ => None,
+        }
+    }
+}
+
+impl Drop for Disk<'_> {
+    fn drop(&mut self) {
+        let _ = Command::new("umount").arg(self.0).status();
+    }
+}
+
 /// A stand-in that is running.
 pub struct Serving {
     child: Child,
