@@ -32,7 +32,7 @@ import struct
 import termios
 import time
 from enum import Enum
-from typing import Any, Callable, Iterator, NamedTuple, TextIO
+from typing import Any, Callable, Iterator, NamedTuple, NoReturn, TextIO
 
 try:
     import serial
@@ -163,7 +163,7 @@ class Ledger:
         counts = ", ".join(f"{self.count(outcome)} {outcome.value}" for outcome in Outcome)
         lines.append(f"{len(self.steps)} steps: {counts}; "
                      f"{self.written:,} bytes written, {self.compared:,} compared")
-        return "".join(line + "\n" for line in lines)
+        return "".join(plain(line) + "\n" for line in lines)
 
 
 class Ending(NamedTuple):
@@ -394,8 +394,14 @@ class Line:
 
 
 def plain(text: str) -> str:
-    """For a terminal: a name may hold control characters, which are written as escapes."""
-    return "".join(c if c.isprintable() or c == "\n" else f"\\u{ord(c):04X}" for c in text)
+    """One line for a terminal: a name may hold control characters, which are written as escapes."""
+    return "".join(c if c.isprintable() else f"\\u{ord(c):04X}" for c in text)
+
+
+def word(name: str) -> str:
+    """A name as a word of a command line."""
+    import shlex  # few runs need it, and its loading takes time
+    return plain(shlex.quote(f"./{name}" if name.startswith("-") else name))
 
 
 def say(stream: TextIO | None, text: str) -> bool:
@@ -650,7 +656,7 @@ def advice(session: Session, step: Step, problem: NotOK) -> str:
     port = session.options.port
     if isinstance(problem, Awake):
         return (f"The device on {port} is awake already, so it takes no wake-up: {START_AGAIN} "
-                f"(a stand-in: indraveck reset {port}).")
+                f"(a stand-in: indraveck reset {word(port)}).")
     if isinstance(problem, Nobody):
         return f"Nobody answers on {port}: {problem.remedy}."
     if isinstance(problem, Unanswered):
@@ -693,10 +699,10 @@ def report(options: argparse.Namespace, ledger: Ledger, ending: Ending) -> int:
     if options.json:
         text = as_json(options, ledger, ending)
     elif ending.status == 2 and not ledger.count(Outcome.OK):  # nobody was asked anything
-        say(sys.stderr, plain(f"flash.py: {ending.message}\n"))
+        say(sys.stderr, plain(f"flash.py: {ending.message}") + "\n")
         return ending.status
     else:
-        text = plain(ledger.text() + (ending.message and f"{ending.message}\n"))
+        text = ledger.text() + (ending.message and plain(ending.message) + "\n")
     if say(sys.stdout, text):
         return ending.status
     say(sys.stderr, "flash.py: the ledger could not be printed; keep standard output open.\n")
@@ -737,8 +743,11 @@ def id_code(text: str) -> bytes:
 class Parser(argparse.ArgumentParser):
     def _print_message(self, message: str, file: TextIO | None = None) -> None:
         """As in the class above, but a stream that fails is no traceback."""
-        if not say(file or sys.stderr, plain(message)) and file is sys.stdout:
+        if not say(file or sys.stderr, message) and file is sys.stdout:
             sys.exit(1)
+
+    def error(self, message: str) -> NoReturn:
+        super().error(plain(message))
 
 
 def arguments() -> argparse.ArgumentParser:

@@ -52,7 +52,7 @@ pub struct Target {
 /// Where the log goes, and how it is written.
 #[derive(Args)]
 pub struct Logging {
-    /// Log each exchange in words, and why there was none: to FILE (added at its end), or without FILE to standard error
+    /// Log each exchange in words, and why there was none: to FILE (added at its end), or without FILE, or with -, to standard error
     #[arg(long, value_name = "FILE", num_args = 0..=1)]
     log: Option<Option<PathBuf>>,
     /// Log one JSON object a line instead of words; to standard error unless --log says where
@@ -64,6 +64,7 @@ impl Logging {
     /// None without a log; otherwise its file, or none for standard error.
     pub fn place(&self) -> Option<Option<&Path>> {
         match &self.log {
+            Some(Some(file)) if file.as_os_str() == "-" => Some(None),
             Some(file) => Some(file.as_deref()),
             None if self.log_json => Some(None),
             None => None,

@@ -11,6 +11,8 @@ use std::os::unix::fs::PermissionsExt;
 use std::os::unix::io::{AsRawFd, RawFd};
 use std::os::unix::net::{UnixListener, UnixStream};
 use std::path::Path;
+use std::thread::sleep;
+use std::time::Duration;
 
 #[derive(Clone, Copy, Debug, PartialEq, Eq)]
 pub enum Ask {
@@ -114,18 +116,7 @@ impl Control {
 
     /// Who has said a whole word since this was asked last.
     pub fn asked(&mut self) -> Vec<(Caller, Ask)> {
-        while let Ok((stream, _)) = self.listener.accept() {
-            if self.callers.len() == MOST_CALLERS {
-                // whoever has said nothing for longest makes room
-                self.callers.remove(0);
-            }
-            if stream.set_nonblocking(true).is_ok() {
-                self.callers.push(Caller {
-                    stream,
-                    heard: Vec::new(),
-                });
-            }
-        }
+        self.accept();
         let mut asked = Vec::new();
         for mut caller in std::mem::take(&mut self.callers) {
             match caller.listen() {
@@ -134,6 +125,30 @@ impl Control {
                 Err(_) => {} // hangs up
             }
         }
+        // whoever has said nothing for longest makes room
+        let surplus = self.callers.len().saturating_sub(MOST_CALLERS);
+        self.callers.drain(..surplus);
         asked
+    }
+
+    fn accept(&mut self) {
+        loop {
+            match self.listener.accept() {
+                Ok((stream, _)) if stream.set_nonblocking(true).is_ok() => {
+                    self.callers.push(Caller {
+                        stream,
+                        heard: Vec::new(),
+                    });
+                }
+                Ok(_) => {}
+                Err(error) if error.kind() == io::ErrorKind::WouldBlock => return,
+                Err(_) => {
+                    // no more files may be opened: room is made, and the others wait a little
+                    self.callers.drain(..self.callers.len().min(1));
+                    sleep(Duration::from_millis(10));
+                    return;
+                }
+            }
+        }
     }
 }

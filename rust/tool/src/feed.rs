@@ -2,19 +2,19 @@
 
 use crate::cli::Feed;
 use crate::failure::{Explain, Outcome};
-use crate::files;
 use crate::log::Log;
 use crate::signals;
 use crate::stand_in::StandIn;
 use std::io::{self, Read, Write};
 
 pub fn run(arguments: &Feed) -> Outcome<()> {
-    files::apart(&[
-        ("profile", Some(&arguments.target.profile)),
-        ("image", Some(&arguments.target.image)),
-        ("log", arguments.logging.place().flatten()),
-    ])?;
-    let log = Log::open(&arguments.logging)?;
+    let log = Log::open_apart(
+        &arguments.logging,
+        &[
+            ("profile", Some(&arguments.target.profile)),
+            ("image", Some(&arguments.target.image)),
+        ],
+    )?;
     feed(arguments, &log).map_err(|failure| log.failed(failure))
 }
 

@@ -88,6 +88,11 @@ impl ImageFile {
         ))
     }
 
+    /// Whether the system will tell if another program writes into it.
+    pub fn is_watched(&self) -> bool {
+        self.writes.is_some()
+    }
+
     fn was_written(&self) -> bool {
         let events = self.writes.as_ref().map(|writes| writes.read_events());
         matches!(events, Some(Ok(events)) if !events.is_empty())

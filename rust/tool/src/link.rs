@@ -40,11 +40,15 @@ fn look(path: &Path) -> Found {
         }
     };
     match registry::entry_of(&target) {
-        // an owner that was just killed is waited for
-        Some(entry) if wait_for(DYING, || !registry::alive(&entry)) => Found::Stale,
-        Some(entry) => Found::Owned(registry::process_of(&entry)),
+        Some(entry) if registry::alive(&entry) => Found::Owned(registry::process_of(&entry)),
+        Some(_) => Found::Stale,
         None => Found::Other,
     }
+}
+
+/// Waits for an owner that was just killed to be gone; not while others wait to start.
+pub fn wait_for_the_dying(path: &Path) {
+    wait_for(DYING, || !matches!(look(path), Found::Owned(_)));
 }
 
 /// Whether a link of this name may be made: there is none, or one whose owner is gone, which is taken away. Asked before a port is

@@ -2,10 +2,12 @@
 
 use crate::cli::Logging;
 use crate::failure::{Explain, Failure, Outcome};
+use crate::files;
 use crate::number::counted;
 use crate::output::Output;
 use crate::text;
-use nix::fcntl::{fcntl, FcntlArg, OFlag};
+use nix::errno::Errno;
+use nix::fcntl::{fcntl, flock, FcntlArg, FlockArg, OFlag};
 use nix::libc;
 use std::fs::{File, OpenOptions};
 use std::io;
@@ -86,7 +88,22 @@ pub struct Log {
 }
 
 impl Log {
-    pub fn open(wanted: &Logging) -> Outcome<Log> {
+    /// A log that is none of the other files of the command. One that is a file is not opened before that is seen.
+    pub fn open_apart(wanted: &Logging, others: &[(&str, Option<&Path>)]) -> Outcome<Log> {
+        let file = wanted.place().flatten();
+        let apart = files::apart(&[others, &[("log", file)]].concat());
+        if file.is_some() {
+            apart?;
+            return Log::open(wanted);
+        }
+        let log = Log::open(wanted)?;
+        match apart {
+            Ok(()) => Ok(log),
+            Err(failure) => Err(log.failed(failure)),
+        }
+    }
+
+    fn open(wanted: &Logging) -> Outcome<Log> {
         let json = wanted.log_json;
         let lost_line = if json {
             |count| lost(count).as_json()
@@ -179,6 +196,14 @@ fn open_file(path: &Path) -> io::Result<File> {
         .open(path)?;
     // the thread that writes may wait
     fcntl(file.as_raw_fd(), FcntlArg::F_SETFL(OFlag::O_APPEND))?;
+    // a file that a stand-in has locked is its image
+    if flock(file.as_raw_fd(), FlockArg::LockSharedNonblock) == Err(Errno::EWOULDBLOCK) {
+        return Err(io::Error::new(
+            io::ErrorKind::WouldBlock,
+            "it is in use as an image by another stand-in",
+        ));
+    }
+    let _ = flock(file.as_raw_fd(), FlockArg::Unlock);
     Ok(file)
 }
 

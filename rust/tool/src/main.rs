@@ -53,11 +53,18 @@ fn main() {
     exit(match Cli::try_parse() {
         Ok(cli) => status(run(cli.command, signals)),
         Err(wrong) if wrong.use_stderr() => {
-            output::tell_people(&text::shown_lines(&wrong.to_string()));
+            output::tell_people(&command_line_error(wrong));
             WRONG_COMMAND_LINE
         }
         Err(help) => status(print::all(&help.to_string())),
     });
+}
+
+/// An error about the command line, with nothing in it that is not shown as itself: it is made again of words that are.
+fn command_line_error(wrong: clap::Error) -> String {
+    let words = std::env::args_os().map(|word| text::shown(word));
+    let again = Cli::try_parse_from(words).err().unwrap_or(wrong);
+    text::shown_lines(&again.to_string())
 }
 
 fn run(command: Command, signals: Option<Outcome<Signals>>) -> Outcome<()> {

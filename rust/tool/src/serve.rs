@@ -3,7 +3,6 @@
 use crate::cli::Serve;
 use crate::control::{Ask, Caller, Control};
 use crate::failure::{Explain, Outcome};
-use crate::files;
 use crate::link::{self, Link};
 use crate::log::{self, Event, Log};
 use crate::number::{bytes, counted, grouped};
@@ -23,13 +22,14 @@ const PORT_LOST: &str = "start it again on the same image; what was answered OK 
 const MOST_BEFORE_RESET: usize = 1 << 18;
 
 pub fn run(arguments: &Serve, signals: Signals) -> Outcome<()> {
-    files::apart(&[
-        ("profile", Some(&arguments.target.profile)),
-        ("image", Some(&arguments.target.image)),
-        ("link", arguments.link.as_deref()),
-        ("log", arguments.logging.place().flatten()),
-    ])?;
-    let log = Log::open(&arguments.logging)?;
+    let log = Log::open_apart(
+        &arguments.logging,
+        &[
+            ("profile", Some(&arguments.target.profile)),
+            ("image", Some(&arguments.target.image)),
+            ("link", arguments.link.as_deref()),
+        ],
+    )?;
     serve(arguments, signals, &log).map_err(|failure| log.failed(failure))
 }
 
@@ -69,6 +69,9 @@ impl Place {
     /// One stand-in of an account at a time: no other can start, or take a link, in the middle of this.
     fn take(arguments: &Serve) -> Outcome<Place> {
         let registry = Registry::open()?;
+        if let Some(path) = &arguments.link {
+            link::wait_for_the_dying(path);
+        }
         let _alone = registry.alone()?;
         if let Some(path) = &arguments.link {
             link::clear(path)?;
@@ -146,15 +149,19 @@ impl Server<'_> {
             }
             let visits = self.place.port.visits();
             self.tell(&visits, Visit::Came);
-            if self.waiting.is_empty() {
+            let fed = if self.waiting.is_empty() {
                 let count = self.read(&mut input)?;
-                self.take_in(&input[..count])?;
-            }
+                self.take_in(&input[..count])
+            } else {
+                Ok(())
+            };
             if !self.waiting.is_empty() {
                 let sent = self.place.port.write(&self.waiting);
                 let sent = sent.explain(|| "the port is gone".to_string(), PORT_LOST)?;
                 self.waiting.drain(..sent);
             }
+            // behind the answers to what came before the failure
+            fed?;
             let stopping = self.heed_callers()?;
             if !stopping.is_empty() {
                 return Ok(stopping);
@@ -253,6 +260,9 @@ impl Server<'_> {
     /// What was sent before reaches the device; then the queues are emptied in both directions; then the device is fresh; then that is
     /// told. How many bytes were still read, and how many bytes of answers were thrown away.
     fn reset(&mut self) -> Outcome<String> {
+        self.stand_in.image().check()?;
+        // first, so that what a client held back comes before the reset too
+        self.place.port.restore();
         let mut input = [0; 4096];
         let mut read = 0;
         let mut thrown = 0;
@@ -269,7 +279,6 @@ impl Server<'_> {
         thrown += self.waiting.len();
         self.waiting.clear();
         self.place.port.empty();
-        self.place.port.restore();
         self.stand_in.reset();
         self.says.say("reset");
         Ok(format!(

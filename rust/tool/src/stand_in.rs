@@ -39,6 +39,10 @@ impl StandIn {
                 "this is a fault of indraveck: report it with the profile file",
             )
         })?;
+        if !device.image().is_watched() {
+            let words = "the system cannot tell whether another program writes into the image: such writes will not be noticed";
+            log.announce(&Event::new("unwatched", words));
+        }
         Ok(StandIn {
             named,
             device,

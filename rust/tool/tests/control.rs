@@ -11,6 +11,7 @@ use std::fs;
 use std::io::{Read, Write};
 use std::net::Shutdown;
 use std::os::unix::net::UnixStream;
+use std::process::Stdio;
 use std::time::Duration;
 
 /// What a command says, once it is done.
@@ -205,6 +206,59 @@ fn callers_who_say_nothing_keep_nobody_out() {
     assert!(told(&folder, &["stop", "slot"]).starts_with("slot: ended; "));
     assert_eq!(serving.ended(), Some(0));
     drop(silent);
+}
+
+/// More callers than wait in line, all at once while nobody listens: each is answered.
+#[test]
+fn many_callers_at_once_are_all_answered() {
+    let folder = Folder::new();
+    let serving = Serving::start(&folder, "flash.bin", &["--link", "slot"]);
+    let entry = fs::read_link(folder.path("slot")).expect("the link");
+    serving.signal(Signal::SIGSTOP);
+    let callers: Vec<UnixStream> = (0..100)
+        .map(|_| {
+            let socket = entry.with_file_name("control");
+            let mut caller = UnixStream::connect(socket).expect("the socket");
+            caller.write_all(b"status\n").expect("a wish");
+            caller
+        })
+        .collect();
+    serving.signal(Signal::SIGCONT);
+    for mut caller in callers {
+        let mut answer = String::new();
+        caller.read_to_string(&mut answer).expect("an answer");
+        assert!(answer.starts_with("done\nserving "), "{:?}", answer);
+    }
+    assert_eq!(serving.end(Signal::SIGTERM), Some(0));
+}
+
+/// Starts that are refused for a link in use do not hold up the others.
+#[test]
+fn refused_starts_do_not_hold_up_others() {
+    let folder = Folder::new();
+    let serving = Serving::start(&folder, "flash.bin", &["--link", "slot"]);
+    let refused: Vec<_> = (0..30)
+        .map(|number| {
+            let image = format!("{}.bin", number);
+            let mut command = common::tool();
+            command.args(["serve", "--profile", "bench.toml", "--create"]);
+            command.args(["--image", &image, "--link", "slot"]);
+            command.current_dir(&folder.0).stdin(Stdio::null());
+            let command = command.stdout(Stdio::piped()).stderr(Stdio::piped());
+            command.spawn().expect("the tool")
+        })
+        .collect();
+    for child in refused {
+        let output = child.wait_with_output().expect("its end");
+        assert_eq!(output.status.code(), Some(1));
+        let error = String::from_utf8_lossy(&output.stderr).into_owned();
+        assert!(
+            error.contains("belongs to a stand-in that is running"),
+            "{}",
+            error
+        );
+    }
+    assert_eq!(serving.end(Signal::SIGTERM), Some(0));
 }
 
 /// What was asked by somebody who has given up since is not done any more.

@@ -202,7 +202,7 @@ fn the_comparison_notices_a_difference() {
 #[test]
 fn no_control_character_of_a_command_line_is_printed() {
     let folder = Folder::new();
-    let odd = "a\u{1B}[31mb\u{7}";
+    let odd = "a\u{1B}[31mb\u{7}\nforged";
     let range = format!("0-{}", odd);
     let files = ["--profile", "bench.toml", "--image", "flash.bin"];
     for arguments in [
@@ -230,10 +230,7 @@ fn no_control_character_of_a_command_line_is_printed() {
         let output = folder.run(&arguments);
         let error = String::from_utf8_lossy(&output.stderr).into_owned();
         assert!(matches!(output.status.code(), Some(1 | 2)), "{}", error);
-        assert!(
-            !error.contains('\u{1B}') && !error.contains('\u{7}'),
-            "{:?}",
-            error
-        );
+        let raw = ["\u{1B}", "\u{7}", "\nforged"];
+        assert!(!raw.iter().any(|raw| error.contains(raw)), "{:?}", error);
     }
 }

@@ -168,6 +168,7 @@ fn a_log_in_json_on_standard_error_is_nothing_but_json() {
     let folder = Folder::new();
     for more in [
         &["--image", "missing.bin"][..],
+        &["--image", "bench.toml"],
         &["--image", "a.bin", "--create", "--link", "nowhere/slot"],
         &[
             "--image",
@@ -247,6 +248,23 @@ fn a_log_does_not_go_into_the_image() {
     assert_eq!(folder.read("flash.bin"), [0xFF; 65_792]);
     assert_eq!(folder.read("bench.toml"), before);
     assert!(!folder.path("x").exists());
+}
+
+/// Nor into the image of another stand-in that is running.
+#[test]
+fn a_log_does_not_go_into_an_image_that_is_served() {
+    let folder = Folder::new();
+    let serving = Serving::start(&folder, "flash.bin", &[]);
+    let other = ["serve", "--profile", "bench.toml", "--image", "other.bin"];
+    let refused = folder.run(&[&other[..], &["--create", "--log", "flash.bin"]].concat());
+    assert_eq!(refused.status.code(), Some(1));
+    let error = String::from_utf8_lossy(&refused.stderr);
+    let wrong = "indraveck: the log flash.bin cannot be opened: it is in use as an image by another stand-in\n";
+    assert!(error.starts_with(wrong), "{}", error);
+    assert_eq!(folder.read("flash.bin").len(), 65_792);
+    let mut client = Client::open(&serving.port);
+    client.wake_up();
+    assert_eq!(serving.end(Signal::SIGTERM), Some(0));
 }
 
 /// Neither the name of the port nor the word `reset` needs a reader.

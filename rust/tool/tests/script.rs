@@ -863,7 +863,7 @@ fn feed_answers_on_standard_output() {
 fn no_control_character_of_a_name_is_printed() {
     let folder = Folder::new();
     folder.write("firmware.bin", &[0x5A; 0x80]);
-    let odd = "a\u{1B}[31mb\u{7}";
+    let odd = "a\u{1B}[31mb\u{7}\n1";
     let port = folder.path(odd);
     for (port, more) in [
         (port.as_path(), &["firmware.bin"][..]),
@@ -874,12 +874,33 @@ fn no_control_character_of_a_name_is_printed() {
         let output = flash(&folder, port, more);
         assert_eq!(output.status.code(), Some(2), "{:?}", output);
         let error = String::from_utf8_lossy(&output.stderr).into_owned();
-        assert!(error.contains("a\\u001B[31mb\\u0007"), "{:?}", error);
+        assert!(
+            error.contains("a\\u001B[31mb\\u0007\\u000A1"),
+            "{:?}",
+            error
+        );
         assert!(
             !error.contains('\u{1B}') && !error.contains('\u{7}'),
             "{:?}",
             error
         );
+    }
+}
+
+/// The advice for an awake device can be pasted, whatever its link is called.
+#[test]
+fn an_awake_device_is_named_as_a_word_of_a_command_line() {
+    let folder = Folder::new();
+    folder.write("firmware.bin", &[0x5A; 0x80]);
+    for (link, word) in [("a b", "'a b'"), ("a;b", "'a;b'"), ("slot", "slot")] {
+        let serving = Serving::start(&folder, "flash.bin", &["--link", link]);
+        Client::open(&serving.port).wake_up();
+        let output = flash(&folder, Path::new(link), &["firmware.bin"]);
+        assert_eq!(output.status.code(), Some(3), "{:?}", output);
+        let text = String::from_utf8_lossy(&output.stdout).into_owned();
+        let advice = format!("(a stand-in: indraveck reset {}).", word);
+        assert!(text.contains(&advice), "{}", text);
+        assert_eq!(serving.end(Signal::SIGTERM), Some(0));
     }
 }
 
