@@ -86,13 +86,13 @@ more-edits:
 
 # exports the blank check alone, for the benchmarks
 PROVED := crates.txt $(shell find crates -path '*/must-fail*' -prune -o -type f \( -name '*.rt' -o -name '*.antt' \) -print)
-target/staticlib/libgauge.a: $(PROVED)
-	rt staticlib gauge
+target/staticlib/libinterface_blank.a: $(PROVED)
+	rt staticlib interface_blank
 
-bench: library target/staticlib/libgauge.a
+bench: library target/staticlib/libinterface_blank.a
 	$(CARGO) bench --offline -p indraveck-benchmarks
 
-count: library target/staticlib/libgauge.a
+count: library target/staticlib/libinterface_blank.a
 	rust/benchmarks/count/run
 
 RUST_FILES = $(shell find rust -name '*.rs' -not -path '*/target/*')

@@ -15,11 +15,11 @@ fn main() {
             PathBuf::from(env::var_os("CARGO_MANIFEST_DIR").unwrap()).join("../../target/staticlib")
         }
     };
-    let library = folder.join("libgauge.a");
+    let library = folder.join("libinterface_blank.a");
     println!("cargo:rerun-if-changed={}", library.display());
     if !library.is_file() {
         eprintln!(
-            "{} is not there: run `rt staticlib gauge` first, or set INDRAVECK_LIBRARY to its folder",
+            "{} is not there: run `rt staticlib interface_blank` first, or set INDRAVECK_LIBRARY to its folder",
             library.display()
         );
         exit(1);

@@ -8,9 +8,9 @@ use lib.ListN.{length}
 use Rattle.packet.specs.declared.Kind.the-variants.{Data}
 use Rattle.packet.specs.Packet.{frame}
 use Rattle.packet.proofs.Frames.{frame-length}
-use Rattle.reply.specs.Reply.{hasRoom, Placed, front}
-use Rattle.reply.proofs.Laws.{room}
-use Rattle.reply.proofs.Replies.{answered}
+use Rattle.packet_reply.specs.Reply.{hasRoom, Placed, front}
+use Rattle.packet_reply.proofs.Laws.{room}
+use Rattle.packet_reply.proofs.Replies.{answered}
 use Rattle.state.specs.declared.State.{State}
 use Rattle.answer.specs.declared.Answered.{Answered}
 use Rattle.answer.specs.Answer.{Answer}

@@ -3,7 +3,7 @@ use mathlib.Core.List.{List}
 use mathlib.Core.Path.{_≡_}
 use Prim.Native.Nat.{ℕ}
 use lib.ListN.{length}
-use Rattle.reply.specs.Reply.{front}
+use Rattle.packet_reply.specs.Reply.{front}
 use Rattle.state.specs.declared.State.{State}
 use Rattle.answer.specs.Answer.{Answer}
 use Rattle.answer.specs.declared.Answered.{Answered}

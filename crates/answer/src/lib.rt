@@ -2,7 +2,7 @@
 ghost use mathlib.Core.Path.{_≡_};
 ghost use Prim.Native.Nat.{_≤_};
 ghost use lib.ListN.{length};
-ghost use Rattle.reply.specs.Reply.{statusReply, dataReply};
+ghost use Rattle.packet_reply.specs.Reply.{statusReply, dataReply};
 ghost use Rattle.answer.specs.Answer.{moved};
 ghost use Rattle.answer.specs.Post.{Sent};
 use state::Stage;
@@ -34,7 +34,7 @@ pub fn tell(reply: &mut [u8], state: State, request: u8, verdict: Verdict) -> An
     requires { ⌜ 1030 ≤ length (now reply) ⌝ }
     ensures { λ r. ⌜ Sent (statusReply request verdict) state r (now (reply .entry)) (now (reply .exit)) ⌝ }
 {
-    let count = reply::put_status(reply, request, verdict);
+    let count = packet_reply::put_status(reply, request, verdict);
     Answered { state, count }
 }
 
@@ -43,6 +43,6 @@ pub fn send(reply: &mut [u8], state: State, res: u8, bytes: &[u8]) -> Answered
     requires { ⌜ (1030 ≤ length (now reply)) × (length (now bytes) ≤ 1024) ⌝ }
     ensures { λ r. ⌜ Sent (dataReply res (now (bytes .entry))) state r (now (reply .entry)) (now (reply .exit)) ⌝ }
 {
-    let count = reply::put_data(reply, res, bytes);
+    let count = packet_reply::put_data(reply, res, bytes);
     Answered { state, count }
 }

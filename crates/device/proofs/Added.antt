@@ -16,10 +16,10 @@ use Rattle.state.specs.declared.Stage.{Stage}
 use Rattle.state.specs.declared.Stage.the-variants.{Setting, Authentication, Command, Writing, Reading}
 use Rattle.state.specs.Fits.{heldFits}
 use Rattle.state.proofs.FitParts.{is-partial}
-use Rattle.machine.specs.Step.{Machine, holding, heard, stepIn, stepOf}
-use Rattle.machine.specs.Feed.{Delivery, feedOf}
-use Rattle.gathering.proofs.Adding.{front-held}
-use Rattle.machine.proofs.Delivered.{later, later-none, later-more, feed-quiet}
+use Rattle.device_steps.specs.Step.{Machine, holding, heard, stepIn, stepOf}
+use Rattle.device_steps.specs.Feed.{Delivery, feedOf}
+use Rattle.packet_gather.proofs.Adding.{front-held}
+use Rattle.device_steps.proofs.Delivered.{later, later-none, later-more, feed-quiet}
 
 -- one such byte is held
 adds : (p : Profile) (m : Machine) (q : List ℕ) (b : ℕ) → heldFits (m .state .stage) (q ++ b ∷ []) ≡ true

@@ -11,12 +11,12 @@ use Rattle.verdict.specs.declared.Reason.the-variants.{LengthRefused}
 use Rattle.verdict.specs.declared.Verdict.the-variants.{Refused}
 use Rattle.profile.specs.declared.Profile.{Profile}
 use Rattle.profile.specs.Areas.{areasOf}
-use Rattle.ranges.specs.declared.Purpose.the-variants.{Write as ToWrite, Read as ToRead}
+use Rattle.profile_ranges.specs.declared.Purpose.the-variants.{Write as ToWrite, Read as ToRead}
 use Rattle.packet.specs.declared.Kind.{Kind}
 use Rattle.packet.specs.declared.Progress.{Progress}
 use Rattle.packet.specs.declared.Progress.the-variants.{Astray, Partial, Unfit, Complete, Excess}
 use Rattle.packet.specs.Packet.{progressOf}
-use Rattle.reply.specs.Reply.{front, statusReply}
+use Rattle.packet_reply.specs.Reply.{front, statusReply}
 use Rattle.state.specs.declared.Pulse.{Pulse}
 use Rattle.state.specs.declared.Stage.{Stage}
 use Rattle.state.specs.declared.Stage.the-variants.{Setting, Authentication, Command, Writing, Reading}
@@ -28,16 +28,16 @@ use Rattle.answer.specs.declared.Answered.{Answered}
 use Rattle.answer.specs.Answer.{Answer, moved}
 use Rattle.answer.specs.Post.{Left, Sent}
 use Rattle.device.specs.declared.Stepped.{Stepped}
-use Rattle.waking.specs.Wake.{wakeOf}
-use Rattle.machine.specs.Step.{Machine, machineOf, Step, settled, holding, earlyCode, endOf, refusedEarly, heard, stepIn, stepOf}
-use Rattle.gathering.specs.Gather.{held}
+use Rattle.answer_waking.specs.Wake.{wakeOf}
+use Rattle.device_steps.specs.Step.{Machine, machineOf, Step, settled, holding, earlyCode, endOf, refusedEarly, heard, stepIn, stepOf}
+use Rattle.packet_gather.specs.Gather.{held}
 use Rattle.device.specs.Listen.{kindOf, answerOf, Listening, RangeIn}
-use Rattle.machine.specs.Fits.{FitMachine}
+use Rattle.device_steps.specs.Fits.{FitMachine}
 use Rattle.device.specs.Post.{Stood}
-use Rattle.calls.specs.Ready.{Ready}
-use Rattle.machine.proofs.Going.{going}
-use Rattle.waking.proofs.Woken.{front-nothing}
-use Rattle.machine.proofs.Kept.{machine-fits, state-fits, still-fits, held-short}
+use Rattle.device_calls.specs.Ready.{Ready}
+use Rattle.device_steps.proofs.Going.{going}
+use Rattle.answer_waking.proofs.Woken.{front-nothing}
+use Rattle.device_steps.proofs.Kept.{machine-fits, state-fits, still-fits, held-short}
 
 -- the bytes held, after the store of one more
 pub held-more : (rc : List ℕ) (n b : ℕ) → n < length rc → take (n + 1) (set rc n b) ≡ take n rc ++ b ∷ []

@@ -8,25 +8,25 @@ use lib.ListN.{length, take, drop, getD, length-drop, length-append, take-append
 use lib.Seq.{take-all, length-take-le, paste, paste-zero, take-paste, length-paste}
 use Rattle.profile.specs.declared.Profile.{Profile}
 use Rattle.packet.proofs.Laws.{impossible}
-use Rattle.reply.specs.Reply.{front}
+use Rattle.packet_reply.specs.Reply.{front}
 use Rattle.state.specs.declared.State.{State}
 use Rattle.state.specs.Fits.{heldFits}
 use Rattle.state.specs.Fit.{Fit}
 use Rattle.device.specs.declared.Fed.{Fed}
-use Rattle.calls.specs.declared.Refusal.{Refusal}
-use Rattle.calls.specs.declared.Refusal.the-variants.{Accepted, Unacceptable, WrongImage, WrongState, ShortReceive, ShortReply}
+use Rattle.device_calls.specs.declared.Refusal.{Refusal}
+use Rattle.device_calls.specs.declared.Refusal.the-variants.{Accepted, Unacceptable, WrongImage, WrongState, ShortReceive, ShortReply}
 use Rattle.device.specs.declared.Stepped.{Stepped}
-use Rattle.machine.specs.Step.{Machine, machineOf, Step, holding, stepOf}
-use Rattle.machine.specs.Feed.{Delivery, feedOf}
-use Rattle.gathering.specs.Gather.{Holds, Taken, held}
-use Rattle.calls.specs.Calls.{isAccepted}
+use Rattle.device_steps.specs.Step.{Machine, machineOf, Step, holding, stepOf}
+use Rattle.device_steps.specs.Feed.{Delivery, feedOf}
+use Rattle.packet_gather.specs.Gather.{Holds, Taken, held}
+use Rattle.device_calls.specs.Calls.{isAccepted}
 use Rattle.device.specs.Post.{Ran, FedBy, Stood}
-use Rattle.calls.specs.Ready.{Ready}
-use Rattle.machine.proofs.Delivered.{later, atOnce, Reached, reached-start, reached-more, reached-quiet, reached-reply, reached-end, consumed-most}
-use Rattle.gathering.proofs.Adding.{taken-there, held-count, taken-count, taken-held, taken-room}
+use Rattle.device_calls.specs.Ready.{Ready}
+use Rattle.device_steps.proofs.Delivered.{later, atOnce, Reached, reached-start, reached-more, reached-quiet, reached-reply, reached-end, consumed-most}
+use Rattle.packet_gather.proofs.Adding.{taken-there, held-count, taken-count, taken-held, taken-room}
 use Rattle.device.proofs.Added.{fed-more}
-use Rattle.waking.proofs.Woken.{front-nothing}
-use Rattle.calls.proofs.Rows.{is-accepted}
+use Rattle.answer_waking.proofs.Woken.{front-nothing}
+use Rattle.device_calls.proofs.Rows.{is-accepted}
 
 -- what the bytes before i have done: no reply yet, the state fits, and what the whole input gives is what its rest gives, i bytes later
 pub record Turned (p : Profile) (im₀ rc₀ rp₀ bs : List ℕ) (st₀ : State) (im rc rp : List ℕ) (st : State) (i : ℕ) : Type 0 where

@@ -8,8 +8,8 @@ use Rattle.state.specs.declared.Stage.{Stage}
 use Rattle.state.specs.declared.Stage.the-variants.{Setting, Authentication, Command, Writing, Reading}
 use Rattle.state.specs.declared.State.{State}
 use Rattle.answer.specs.Answer.{Answer}
-use Rattle.granting.specs.Grants.{answerCommand}
-use Rattle.transferring.specs.Transfers.{answerWrite, answerNext}
+use Rattle.answer_command.specs.Grants.{answerCommand}
+use Rattle.answer_transfer.specs.Transfers.{answerWrite, answerNext}
 
 -- no packet exists in setting: its clauses are never asked
 abbrev pub kindOf : Stage → Kind

@@ -5,16 +5,16 @@ use Prim.Native.Nat.{ℕ, _≤_}
 use lib.ListN.{length, take}
 use Rattle.profile.specs.declared.Profile.{Profile}
 use Rattle.profile.specs.Areas.{areasOf, totalOf}
-use Rattle.acceptance.specs.Rules.{Accepted as AcceptedProfile}
-use Rattle.reply.specs.Reply.{front}
+use Rattle.profile_rules.specs.Rules.{Accepted as AcceptedProfile}
+use Rattle.packet_reply.specs.Reply.{front}
 use Rattle.state.specs.declared.State.{State}
 use Rattle.state.specs.Fit.{Fit}
-use Rattle.calls.specs.declared.Refusal.{Refusal}
-use Rattle.calls.specs.declared.Refusal.the-variants.{Accepted, Unacceptable, WrongImage, WrongState, ShortReceive, ShortReply}
+use Rattle.device_calls.specs.declared.Refusal.{Refusal}
+use Rattle.device_calls.specs.declared.Refusal.the-variants.{Accepted, Unacceptable, WrongImage, WrongState, ShortReceive, ShortReply}
 use Rattle.device.specs.declared.Fed.{Fed}
 use Rattle.device.specs.declared.Stepped.{Stepped}
-use Rattle.machine.specs.Step.{Step}
-use Rattle.machine.specs.Feed.{Delivery}
+use Rattle.device_steps.specs.Step.{Step}
+use Rattle.device_steps.specs.Feed.{Delivery}
 
 -- what an accepted feed leaves: d is what is defined; empty input leaves the receive buffer too
 pub record Ran (d : Delivery) (input : List ℕ) (r : Fed) (im rc₀ rc before after : List ℕ) : Type 0 where

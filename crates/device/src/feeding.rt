@@ -2,31 +2,31 @@
 ghost use mathlib.Core.Path.{_≡_};
 ghost use Prim.Native.Nat.{_≤_};
 ghost use lib.ListN.{length};
-ghost use Rattle.acceptance.specs.Rules.{Accepted as AcceptedProfile};
+ghost use Rattle.profile_rules.specs.Rules.{Accepted as AcceptedProfile};
 ghost use Rattle.verdict.specs.declared.Reason.the-variants.{LengthRefused};
 ghost use Rattle.verdict.specs.declared.Verdict.the-variants.{Refused};
-ghost use Rattle.reply.specs.Reply.{statusReply};
+ghost use Rattle.packet_reply.specs.Reply.{statusReply};
 ghost use Rattle.answer.specs.Answer.{moved};
 ghost use Rattle.answer.specs.Post.{Left, Sent};
-ghost use Rattle.machine.specs.Step.{machineOf, earlyCode, endOf, stepOf};
+ghost use Rattle.device_steps.specs.Step.{machineOf, earlyCode, endOf, stepOf};
 ghost use Rattle.device.specs.Listen.{kindOf, answerOf, Listening, RangeIn};
-ghost use Rattle.machine.specs.Feed.{feedOf};
+ghost use Rattle.device_steps.specs.Feed.{feedOf};
 ghost use Rattle.device.specs.Post.{Ran, Stood};
-ghost use Rattle.calls.specs.Ready.{Ready};
+ghost use Rattle.device_calls.specs.Ready.{Ready};
 use crate::Fed;
 use crate::Refusal;
 use crate::Stepped;
 use answer::Answered;
-use gathering::gather;
-use gathering::holding;
+use answer_waking::wake;
 use packet::Kind;
 use packet::Progress;
+use packet_gather::gather;
+use packet_gather::holding;
 use profile::Profile;
 use state::Stage;
 use state::State;
 use verdict::Reason;
 use verdict::Verdict;
-use waking::wake;
 
 // The kind of packet that a stage awaits; setting awaits none.
 fn awaited(stage: Stage) -> Kind
@@ -91,10 +91,16 @@ fn complete(
 {
     let stage = state.stage;
     match stage {
-        Stage::Setting(_) => granting::answer_command(profile, image, state, packet, reply),
-        Stage::Authentication => granting::answer_command(profile, image, state, packet, reply),
-        Stage::Command => granting::answer_command(profile, image, state, packet, reply),
-        Stage::Writing(range) => transferring::answer_write(
+        Stage::Setting(_) => answer_command::answer_command(profile, image, state, packet, reply),
+        Stage::Authentication => answer_command::answer_command(
+            profile,
+            image,
+            state,
+            packet,
+            reply,
+        ),
+        Stage::Command => answer_command::answer_command(profile, image, state, packet, reply),
+        Stage::Writing(range) => answer_transfer::answer_write(
             profile,
             image,
             state,
@@ -102,7 +108,7 @@ fn complete(
             packet,
             reply,
         ),
-        Stage::Reading(range) => transferring::answer_next(
+        Stage::Reading(range) => answer_transfer::answer_next(
             profile,
             image,
             state,

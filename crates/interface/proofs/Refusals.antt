@@ -18,11 +18,11 @@ use Rattle.profile_bytes.specs.Profile.{profileIn}
 use Rattle.profile_bytes.specs.Rows.{profileRows}
 use Rattle.profile_bytes.proofs.RowLaws.{no-profile, is-profile}
 use Rattle.state_bytes.specs.State.{stateWith, stateBy, stageIn}
-use Rattle.calls.specs.declared.Refusal.{Refusal}
-use Rattle.calls.specs.declared.Refusal.the-variants.{Accepted, Unacceptable, WrongImage, WrongState, ShortReceive, ShortReply}
-use Rattle.calls.specs.declared.Started.{Started}
-use Rattle.calls.specs.Calls.{numberOf, isAccepted, startRows, bufferRows, feedRows, refusalOf, startedBy}
-use Rattle.calls.proofs.Rows.{is-accepted, Refusing, start-refusing, none-found, accepts, goes-on, stops}
+use Rattle.device_calls.specs.declared.Refusal.{Refusal}
+use Rattle.device_calls.specs.declared.Refusal.the-variants.{Accepted, Unacceptable, WrongImage, WrongState, ShortReceive, ShortReply}
+use Rattle.device_calls.specs.declared.Started.{Started}
+use Rattle.device_calls.specs.Calls.{numberOf, isAccepted, startRows, bufferRows, feedRows, refusalOf, startedBy}
+use Rattle.device_calls.proofs.Rows.{is-accepted, Refusing, start-refusing, none-found, accepts, goes-on, stops}
 use Rattle.interface.specs.Calls.{startingRows, stateRows, feedingRows, startRefusal, feedRefusal}
 
 -- the number 0 is that of an accepted call

@@ -10,10 +10,10 @@ use borrow.Author.Tests.{eqb-true, leb-true, leb-false}
 use Rattle.verdict.proofs.OneAnswer.{one-answer}
 use Rattle.packet.specs.Packet.{good, payloadOf}
 use Rattle.packet.proofs.Contents.{payload-short, payload-none, payload-part}
-use Rattle.calls.specs.declared.Refusal.{Refusal}
-use Rattle.calls.specs.declared.Refusal.the-variants.{Accepted, Unacceptable, WrongImage, WrongState, ShortReceive, ShortReply}
-use Rattle.calls.specs.Calls.{isAccepted}
-use Rattle.machine.specs.Feed.{Delivery}
+use Rattle.device_calls.specs.declared.Refusal.{Refusal}
+use Rattle.device_calls.specs.declared.Refusal.the-variants.{Accepted, Unacceptable, WrongImage, WrongState, ShortReceive, ShortReply}
+use Rattle.device_calls.specs.Calls.{isAccepted}
+use Rattle.device_steps.specs.Feed.{Delivery}
 use Rattle.interface.specs.Post.{Started, WasReset, Ran, Unfed, FedBy, Handed}
 
 -- starting and resetting: the same number and the same bytes

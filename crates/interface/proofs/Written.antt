@@ -11,18 +11,18 @@ use Rattle.verdict.specs.Check.{firstFault}
 use Rattle.profile.specs.declared.Profile.{Profile}
 use Rattle.state.specs.declared.Stage.{Stage}
 use Rattle.state.specs.declared.State.{State}
-use Rattle.fields.specs.Fields.{fourAt}
+use Rattle.packet_fields.specs.Fields.{fourAt}
 use Rattle.state_bytes.specs.declared.StageIn.{StageIn}
 use Rattle.state_bytes.specs.declared.StageIn.the-variants.{Is, NoStage}
 use Rattle.profile_bytes.specs.Profile.{profileIn}
 use Rattle.state_bytes.specs.State.{stageIn, stageOf, stateWith, stateBy, stateBytes, stateOver}
 use Rattle.device.specs.declared.Fed.{Fed}
-use Rattle.calls.specs.declared.Refusal.{Refusal}
-use Rattle.calls.specs.declared.Refusal.the-variants.{Accepted, Unacceptable, WrongImage, WrongState, ShortReceive, ShortReply}
-use Rattle.calls.specs.declared.Started.{Started as Begun}
-use Rattle.calls.specs.Calls.{numberOf, isAccepted, feedRows, refusalOf, startedAt, startedBy}
-use Rattle.machine.specs.Step.{machineOf}
-use Rattle.machine.specs.Feed.{Delivery, feedOf}
+use Rattle.device_calls.specs.declared.Refusal.{Refusal}
+use Rattle.device_calls.specs.declared.Refusal.the-variants.{Accepted, Unacceptable, WrongImage, WrongState, ShortReceive, ShortReply}
+use Rattle.device_calls.specs.declared.Started.{Started as Begun}
+use Rattle.device_calls.specs.Calls.{numberOf, isAccepted, feedRows, refusalOf, startedAt, startedBy}
+use Rattle.device_steps.specs.Step.{machineOf}
+use Rattle.device_steps.specs.Feed.{Delivery, feedOf}
 use Rattle.device.specs.Post.{Unfed as UnfedAt, FedBy as FedAt}
 use Rattle.interface.specs.Calls.{startRefusal, feedRefusal}
 use Rattle.interface.specs.Post.{Started, WasReset, resetOver, Unfed, FedBy, stateOr, deliveryOf}

@@ -10,9 +10,9 @@ use Rattle.state.specs.declared.State.{State}
 use Rattle.profile_bytes.specs.Profile.{profileIn}
 use Rattle.profile_bytes.specs.Rows.{profileRows}
 use Rattle.state_bytes.specs.State.{stateLength, stateIn}
-use Rattle.calls.specs.declared.Refusal.{Refusal}
-use Rattle.calls.specs.declared.Refusal.the-variants.{WrongState}
-use Rattle.calls.specs.Calls.{bufferRows, refusalOf}
+use Rattle.device_calls.specs.declared.Refusal.{Refusal}
+use Rattle.device_calls.specs.declared.Refusal.the-variants.{WrongState}
+use Rattle.device_calls.specs.Calls.{bufferRows, refusalOf}
 
 -- starting and resetting: of the state's bytes only their number k counts
 unfoldable pub startingRows : List ℕ → ℕ → ℕ → List (Check Refusal)

@@ -8,15 +8,15 @@ use lib.ListN.{length, take}
 use lib.Dec.{eqb}
 use Rattle.profile.specs.declared.Profile.{Profile}
 use Rattle.packet.specs.Packet.{payloadOf}
-use Rattle.reply.specs.Reply.{front}
+use Rattle.packet_reply.specs.Reply.{front}
 use Rattle.state.specs.declared.State.{State}
 use Rattle.profile_bytes.specs.Profile.{profileIn}
 use Rattle.state_bytes.specs.State.{stateIn, stateBytes, stateOver}
-use Rattle.calls.specs.declared.Refusal.{Refusal}
-use Rattle.calls.specs.declared.Refusal.the-variants.{Accepted, Unacceptable, WrongImage, WrongState, ShortReceive, ShortReply}
-use Rattle.machine.specs.Step.{Machine, machineOf}
-use Rattle.machine.specs.Feed.{Delivery, feedOf}
-use Rattle.calls.specs.Calls.{numberOf, startedAt, zeroState}
+use Rattle.device_calls.specs.declared.Refusal.{Refusal}
+use Rattle.device_calls.specs.declared.Refusal.the-variants.{Accepted, Unacceptable, WrongImage, WrongState, ShortReceive, ShortReply}
+use Rattle.device_steps.specs.Step.{Machine, machineOf}
+use Rattle.device_steps.specs.Feed.{Delivery, feedOf}
+use Rattle.device_calls.specs.Calls.{numberOf, startedAt, zeroState}
 use Rattle.interface.specs.Calls.{startRefusal, feedRefusal}
 
 -- starting: the state that it gives, all zero if it is refused, in 33 bytes

@@ -8,14 +8,14 @@ use Rattle.verdict.specs.Check.{firstFault}
 use Rattle.profile.specs.declared.Profile.{Profile}
 use Rattle.profile.specs.Areas.{areasOf}
 use Rattle.recording.specs.Recording.{recordsOf}
-use Rattle.replay.specs.Line.{exchangesOf}
-use Rattle.replay.specs.Replay.{replay}
-use Rattle.playback.specs.Post.{Played}
-use Rattle.calls.specs.declared.Refusal.{Refusal}
-use Rattle.calls.specs.declared.Refusal.the-variants.{Accepted}
-use Rattle.calls.specs.declared.Started.{Started}
-use Rattle.calls.specs.Calls.{numberOf, isAccepted, startRows, refusalOf, startedBy}
-use Rattle.calls.proofs.Rows.{is-accepted}
+use Rattle.record_exchange.specs.Line.{exchangesOf}
+use Rattle.record_exchange.specs.Replay.{replay}
+use Rattle.record_replay.specs.Post.{Played}
+use Rattle.device_calls.specs.declared.Refusal.{Refusal}
+use Rattle.device_calls.specs.declared.Refusal.the-variants.{Accepted}
+use Rattle.device_calls.specs.declared.Started.{Started}
+use Rattle.device_calls.specs.Calls.{numberOf, isAccepted, startRows, refusalOf, startedBy}
+use Rattle.device_calls.proofs.Rows.{is-accepted}
 use Rattle.profile_bytes.specs.Profile.{profileIn}
 use Rattle.profile_bytes.proofs.RowLaws.{refused-start}
 use Rattle.interface_replay.specs.Post.{replayRefusal, Replayed}

@@ -7,10 +7,10 @@ use lib.ListN.{length}
 use Rattle.verdict.specs.Check.{firstFault}
 use Rattle.profile.specs.Areas.{areasOf}
 use Rattle.recording.specs.Recording.{recordsOf, readable}
-use Rattle.replay.specs.Line.{exchangesOf}
-use Rattle.replay.specs.Replay.{replay}
-use Rattle.calls.specs.declared.Refusal.{Refusal}
-use Rattle.calls.specs.Calls.{numberOf, isAccepted, refusalOf}
+use Rattle.record_exchange.specs.Line.{exchangesOf}
+use Rattle.record_exchange.specs.Replay.{replay}
+use Rattle.device_calls.specs.declared.Refusal.{Refusal}
+use Rattle.device_calls.specs.Calls.{numberOf, isAccepted, refusalOf}
 use Rattle.profile_bytes.specs.Profile.{profileIn}
 use Rattle.profile_bytes.specs.Rows.{profileRows}
 

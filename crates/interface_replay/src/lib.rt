@@ -2,7 +2,7 @@
 ghost use mathlib.Core.Path.{_≡_};
 ghost use lib.ListN.{length};
 ghost use Rattle.interface_replay.specs.Post.{replayRefusal, Replayed};
-use calls::Refusal;
+use device_calls::Refusal;
 
 // Why a replay with a profile's bytes on an image is refused: as a start is.
 fn judged(bytes: &[u8], image: &[u8]) -> Refusal
@@ -11,7 +11,7 @@ fn judged(bytes: &[u8], image: &[u8]) -> Refusal
     if bytes.len() != 156 {
         return Refusal::Unacceptable;
     }
-    let begun = calls::start(profile_bytes::profile_in(bytes), image);
+    let begun = device_calls::start(profile_bytes::profile_in(bytes), image);
     begun.refusal
 }
 
@@ -27,11 +27,11 @@ pub extern "C" fn indraveck_replay(
     ensures { λ r. ⌜ Replayed (now (profile .entry)) (now (recording .entry)) (now (image .entry)) (now (image .exit)) r (now (read .exit)) ⌝ }
 {
     let refusal = judged(profile, image);
-    if !calls::is_accepted(refusal) {
+    if !device_calls::is_accepted(refusal) {
         *read = 0;
-        return calls::number(refusal) as u32;
+        return device_calls::number(refusal) as u32;
     }
-    let count = playback::play(image, profile_bytes::profile_in(profile), recording);
+    let count = record_replay::play(image, profile_bytes::profile_in(profile), recording);
     *read = count as u64;
     0
 }

@@ -1,3 +1,5 @@
 pub mod Copied
 pub mod Laws
 pub mod RoundTrip
+pub mod Turns
+pub mod Same

@@ -1,8 +1,9 @@
-// Numbers on the line: two or four bytes, high byte first; and the smaller of two numbers.
+// Numbers on the line: two or four bytes, high byte first; the smaller of two numbers; whether bytes are the same.
 ghost use mathlib.Core.Path.{_≡_};
 ghost use Prim.Native.Nat.{_+_, _<_, min};
 ghost use lib.Dec.{leb};
 ghost use Rattle.numbers.specs.Bytes.{numberAt, Put};
+ghost use Rattle.numbers.specs.Same.{same};
 
 // A number that was read, or that the slice ends before the number does.
 pub enum Number {
@@ -82,5 +83,22 @@ pub fn write_four(buffer: &mut [u8], at: usize, n: u32) -> bool
     buffer[at + 1] = (n / 65536 % 256) as u8;
     buffer[at + 2] = (n / 256 % 256) as u8;
     buffer[at + 3] = (n % 256) as u8;
+    true
+}
+
+// Whether two slices hold the same bytes.
+pub fn equal(a: &[u8], b: &[u8]) -> bool
+    ensures { λ r. ⌜ r ≡ same (now (a .entry)) (now (b .entry)) ⌝ }
+{
+    if a.len() != b.len() {
+        return false;
+    }
+    let mut i = 0;
+    while i < a.len() {
+        if a[i] != b[i] {
+            return false;
+        }
+        i += 1;
+    }
     true
 }

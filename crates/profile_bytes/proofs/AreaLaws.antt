@@ -9,10 +9,10 @@ use lib.ListN.{length, take, drop, getD, set, length-drop}
 use lib.Seq.{take-all, take-suc-set, length-take-le, getD-take, getD-drop}
 use Rattle.numbers.specs.Bytes.{number}
 use Rattle.profile.specs.declared.Area.{Area}
-use Rattle.fields.specs.Fields.{fourAt, bytesFrom}
+use Rattle.packet_fields.specs.Fields.{fourAt, bytesFrom}
 use Rattle.profile_bytes.specs.Profile.{areaAt, areasFrom}
-use Rattle.fields.proofs.Laws.{value-read}
-use Rattle.fields.proofs.Spelled.{from-part}
+use Rattle.packet_fields.proofs.Laws.{value-read}
+use Rattle.packet_fields.proofs.Spelled.{from-part}
 
 -- one area more
 areas-more : (n at : ℕ) (bs : List ℕ) → areasFrom (n + 1) at bs ≡ areasFrom n at bs ++ (areaAt bs (at + 17 * n) ∷ [])

@@ -1,3 +1,4 @@
 pub mod AreaLaws
 pub mod ProfileLaws
 pub mod RowLaws
+pub mod ProfileRoundTrip

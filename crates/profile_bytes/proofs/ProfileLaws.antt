@@ -4,7 +4,7 @@ use mathlib.Core.Path.{_≡_, refl}
 use Prim.Native.Nat.{ℕ}
 use lib.ListN.{getD}
 use Rattle.profile.specs.declared.Area.{Area}
-use Rattle.fields.specs.Fields.{fourAt, twoAt}
+use Rattle.packet_fields.specs.Fields.{fourAt, twoAt}
 use Rattle.profile_bytes.specs.Profile.{areasFrom, profileIn}
 
 pub fields-read : (bs : List ℕ) {areas : List Area} {noa sci rmb typ bfv low high : ℕ} → areas ≡ areasFrom 8 20 bs → noa ≡ getD bs 0 0 → sci ≡ fourAt bs 4

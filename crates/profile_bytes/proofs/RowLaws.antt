@@ -5,9 +5,9 @@ use Prim.Native.Nat.{ℕ}
 use lib.ListN.{length}
 use borrow.Author.Tests.{eq-eqb, ne-eqb}
 use Rattle.verdict.specs.Check.{Check, firstFault}
-use Rattle.calls.specs.declared.Refusal.{Refusal}
-use Rattle.calls.specs.declared.Refusal.the-variants.{Unacceptable}
-use Rattle.calls.specs.Calls.{startRows, refusalOf}
+use Rattle.device_calls.specs.declared.Refusal.{Refusal}
+use Rattle.device_calls.specs.declared.Refusal.the-variants.{Unacceptable}
+use Rattle.device_calls.specs.Calls.{startRows, refusalOf}
 use Rattle.profile_bytes.specs.Profile.{profileIn}
 use Rattle.profile_bytes.specs.Rows.{profileRows}
 

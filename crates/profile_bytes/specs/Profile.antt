@@ -5,8 +5,8 @@ use lib.ListN.{getD}
 use Rattle.numbers.specs.Bytes.{number, bytesOf, field}
 use Rattle.profile.specs.declared.Area.{Area}
 use Rattle.profile.specs.declared.Profile.{Profile}
-use Rattle.messages.specs.Messages.{areaMessage}
-use Rattle.fields.specs.Fields.{fourAt, twoAt}
+use Rattle.packet_messages.specs.Messages.{areaMessage}
+use Rattle.packet_fields.specs.Fields.{fourAt, twoAt}
 
 abbrev pub profileLength : ℕ
 profileLength = 156

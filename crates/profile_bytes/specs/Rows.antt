@@ -5,9 +5,9 @@ use Prim.Native.Nat.{ℕ}
 use lib.ListN.{length}
 use lib.Dec.{eqb}
 use Rattle.verdict.specs.Check.{Check, _gives_}
-use Rattle.calls.specs.declared.Refusal.{Refusal}
-use Rattle.calls.specs.declared.Refusal.the-variants.{Unacceptable}
-use Rattle.calls.specs.Calls.{startRows}
+use Rattle.device_calls.specs.declared.Refusal.{Refusal}
+use Rattle.device_calls.specs.declared.Refusal.the-variants.{Unacceptable}
+use Rattle.device_calls.specs.Calls.{startRows}
 use Rattle.profile_bytes.specs.Profile.{profileLength, profileIn}
 
 -- for an image of n bytes

@@ -2,7 +2,7 @@
 ghost use mathlib.Core.Path.{_≡_};
 ghost use Prim.Native.Nat.{_≤_};
 ghost use lib.ListN.{length};
-ghost use Rattle.fields.specs.Fields.{twoAt};
+ghost use Rattle.packet_fields.specs.Fields.{twoAt};
 ghost use Rattle.profile_bytes.specs.Profile.{areaAt, areasFrom, profileIn};
 use numbers::Number;
 use profile::Area;
@@ -25,11 +25,11 @@ fn area_of(part: &[u8]) -> Area
     ensures { λ r. ⌜ r ≡ areaAt (now (part .entry)) 0 ⌝ }
 {
     Area {
-        koa: fields::byte_at(part, 0),
-        sad: fields::four_at(part, 1),
-        ead: fields::four_at(part, 5),
-        eau: fields::four_at(part, 9),
-        wau: fields::four_at(part, 13),
+        koa: packet_fields::byte_at(part, 0),
+        sad: packet_fields::four_at(part, 1),
+        ead: packet_fields::four_at(part, 5),
+        eau: packet_fields::four_at(part, 9),
+        wau: packet_fields::four_at(part, 13),
     }
 }
 
@@ -39,11 +39,11 @@ fn area_cut(bytes: &[u8], at: usize) -> Area
     ensures { λ r. ⌜ r ≡ areaAt (now (bytes .entry)) at ⌝ }
 {
     Area {
-        koa: fields::byte_at(bytes, at),
-        sad: fields::four_at(bytes, at + 1),
-        ead: fields::four_at(bytes, at + 5),
-        eau: fields::four_at(bytes, at + 9),
-        wau: fields::four_at(bytes, at + 13),
+        koa: packet_fields::byte_at(bytes, at),
+        sad: packet_fields::four_at(bytes, at + 1),
+        ead: packet_fields::four_at(bytes, at + 5),
+        eau: packet_fields::four_at(bytes, at + 9),
+        wau: packet_fields::four_at(bytes, at + 13),
     }
 }
 
@@ -92,14 +92,14 @@ fn whole(profile: &[u8]) -> Profile
 {
     Profile {
         areas: areas_whole(profile),
-        noa: fields::byte_at(profile, 0),
-        sci: fields::four_at(profile, 4),
-        rmb: fields::four_at(profile, 8),
-        typ: fields::byte_at(profile, 1),
+        noa: packet_fields::byte_at(profile, 0),
+        sci: packet_fields::four_at(profile, 4),
+        rmb: packet_fields::four_at(profile, 8),
+        typ: packet_fields::byte_at(profile, 1),
         bfv: two_at(profile, 2),
         window: Window {
-            low: fields::four_at(profile, 12),
-            high: fields::four_at(profile, 16),
+            low: packet_fields::four_at(profile, 12),
+            high: packet_fields::four_at(profile, 16),
         },
     }
 }
@@ -110,14 +110,14 @@ fn cut(bytes: &[u8]) -> Profile
 {
     Profile {
         areas: areas_cut(bytes),
-        noa: fields::byte_at(bytes, 0),
-        sci: fields::four_at(bytes, 4),
-        rmb: fields::four_at(bytes, 8),
-        typ: fields::byte_at(bytes, 1),
+        noa: packet_fields::byte_at(bytes, 0),
+        sci: packet_fields::four_at(bytes, 4),
+        rmb: packet_fields::four_at(bytes, 8),
+        typ: packet_fields::byte_at(bytes, 1),
         bfv: two_at(bytes, 2),
         window: Window {
-            low: fields::four_at(bytes, 12),
-            high: fields::four_at(bytes, 16),
+            low: packet_fields::four_at(bytes, 12),
+            high: packet_fields::four_at(bytes, 16),
         },
     }
 }

@@ -41,7 +41,7 @@ const DIVIDED_ONCE: [u32; 3] = [4034, 4177, 4549];
 // A space, and a byte in hex.
 fn print_byte(value: u8) {
     io::write_all(1, b" ");
-    let pair = text::hex(value);
+    let pair = show_common::hex(value);
     io::write_all(1, &pair);
 }
 

@@ -1,10 +1,10 @@
 // Sessions with the device on the bench profile: what is sent is written out below, and each reply is printed.
 ghost use Prim.Native.Nat.{_+_, _≤_, _<_};
 ghost use lib.ListN.{length};
-use bench::bench_profile;
 use device::Refusal;
 use numbers::Number;
 use profile::Profile;
+use show_common::bench_profile;
 use state::State;
 
 // Bytes in hex, each behind a space.
@@ -12,7 +12,7 @@ fn print_bytes(bytes: &[u8]) {
     let mut i = 0;
     while i < bytes.len() {
         io::write_all(1, b" ");
-        let pair = text::hex(bytes[i]);
+        let pair = show_common::hex(bytes[i]);
         io::write_all(1, &pair);
         i += 1;
     }

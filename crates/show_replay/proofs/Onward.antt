@@ -8,7 +8,7 @@ use Rattle.recording.specs.declared.Found.{Found}
 use Rattle.recording.specs.declared.Found.the-variants.{Host, Device, Reset, End, Unreadable}
 use Rattle.recording.specs.Recording.{foundAt, stopped}
 use Rattle.recording.proofs.Reading.{Lies, lies}
-use Rattle.delivering.specs.Stands.{Inside}
+use Rattle.record_driver.specs.Stands.{Inside}
 
 inside-in : (at n : ℕ) (found : Found) → Lies at n found → Inside n found
 inside-in at n (Host part) l = (l .order, l .fits)

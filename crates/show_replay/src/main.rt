@@ -4,9 +4,9 @@ ghost use mathlib.Core.Path.{_≡_};
 ghost use Prim.Native.Nat.{_+_, _≤_, _<_};
 ghost use lib.ListN.{length};
 ghost use Rattle.recording.specs.Recording.{stopped};
-ghost use Rattle.delivering.specs.Stands.{Inside};
-use bench::bench_profile;
+ghost use Rattle.record_driver.specs.Stands.{Inside};
 use recording::Found;
+use show_common::bench_profile;
 use state::State;
 
 // Bytes behind others in a buffer; none if there is no room.
@@ -165,18 +165,18 @@ fn replays(script: &[u8], image: &[u8]) -> bool {
     if 8192 < length {
         return false;
     }
-    let read = playback::play(&mut replayed, bench_profile(), &line[..length]);
+    let read = record_replay::play(&mut replayed, bench_profile(), &line[..length]);
     if read != length {
         return false;
     }
-    compare::equal(image, &replayed)
+    numbers::equal(image, &replayed)
 }
 
 // A script driven on an image; whether all of it was read.
 fn drives(image: &mut [u8], script: &[u8]) -> bool {
     let mut receive = [0u8; 1030];
     let mut reply = [0u8; 1030];
-    let driven = driver::drive(bench_profile(), image, &mut receive, &mut reply, script);
+    let driven = record_driver::drive(bench_profile(), image, &mut receive, &mut reply, script);
     let refusal = driven.refusal;
     if device::number(refusal) != 0 {
         return false;

@@ -5,8 +5,8 @@ use Prim.Native.Nat.{ℕ, _≤_}
 use native.Mathlib.Omega.{arith}
 use lib.ListN.{length, take}
 use lib.Seq.{length-take-le}
-use Rattle.reply.specs.Reply.{Placed}
-use Rattle.reply.proofs.Replies.{answer-within}
+use Rattle.packet_reply.specs.Reply.{Placed}
+use Rattle.packet_reply.proofs.Replies.{answer-within}
 
 module _ (contents before after : List ℕ) (r : ℕ) (k : length after ≡ length before) (p : Placed contents before after r) where
   -- the reply lies within the buffer

@@ -9,7 +9,7 @@ fn print_packet(packet: &[u8]) {
         if 0 < i {
             io::write_all(1, b" ");
         }
-        let pair = text::hex(packet[i]);
+        let pair = show_common::hex(packet[i]);
         io::write_all(1, &pair);
     }
     io::write_all(1, b"\n");
@@ -17,20 +17,20 @@ fn print_packet(packet: &[u8]) {
 
 fn print_heading(res: u8) {
     io::write_all(1, b"RES ");
-    let pair = text::hex(res);
+    let pair = show_common::hex(res);
     io::write_all(1, &pair);
     io::write_all(1, b"\n");
 }
 
 fn print_status(request: u8, verdict: Verdict) {
     let mut buffer = [0u8; 7];
-    let n = reply::put_status(&mut buffer, request, verdict);
+    let n = packet_reply::put_status(&mut buffer, request, verdict);
     print_packet(&buffer[..n]);
 }
 
 fn print_data(res: u8, bytes: &[u8]) {
     let mut buffer = [0u8; 23];
-    let n = reply::put_data(&mut buffer, res, bytes);
+    let n = packet_reply::put_data(&mut buffer, res, bytes);
     print_packet(&buffer[..n]);
 }
 
@@ -38,7 +38,7 @@ fn print_data(res: u8, bytes: &[u8]) {
 fn print_longest(res: u8) {
     let bytes = [0xFFu8; 1024];
     let mut buffer = [0u8; 1030];
-    let n = reply::put_data(&mut buffer, res, &bytes);
+    let n = packet_reply::put_data(&mut buffer, res, &bytes);
     io::print_decimal(1, n as u64);
     io::write_all(1, b" bytes, the first four and the last two:\n");
     print_packet(&buffer[..4]);
@@ -46,13 +46,13 @@ fn print_longest(res: u8) {
 }
 
 fn print_granted(request: u8) {
-    print_heading(reply::res(request, Verdict::Granted));
+    print_heading(packet_reply::res(request, Verdict::Granted));
     print_status(request, Verdict::Granted);
 }
 
 // One reason for each code.
 fn print_refused(request: u8) {
-    print_heading(reply::res(request, Verdict::Refused(Reason::UnknownCommand)));
+    print_heading(packet_reply::res(request, Verdict::Refused(Reason::UnknownCommand)));
     print_status(request, Verdict::Refused(Reason::UnknownCommand));
     print_status(request, Verdict::Refused(Reason::WrongEtx));
     print_status(request, Verdict::Refused(Reason::WrongSum));
@@ -84,7 +84,7 @@ fn print_area(koa: u8, sad: u32, ead: u32, eau: u32, wau: u32) {
         eau,
         wau,
     };
-    let bytes = messages::area_message(area);
+    let bytes = packet_messages::area_message(area);
     print_data(0x3B, &bytes);
 }
 

@@ -9,8 +9,8 @@ use Rattle.profile.specs.declared.Area.{Area}
 use Rattle.profile.specs.declared.Window.{Window}
 use Rattle.profile.specs.declared.Place.{Place}
 use Rattle.profile.specs.Places.{placeOf}
-use Rattle.ranges.specs.declared.Purpose.{Purpose}
-use Rattle.ranges.proofs.OneSearch.{grantedAt, passes-exactly}
+use Rattle.profile_ranges.specs.declared.Purpose.{Purpose}
+use Rattle.profile_ranges.proofs.OneSearch.{grantedAt, passes-exactly}
 use Rattle.state.specs.declared.Range.{Range}
 use Rattle.state.specs.Fits.{rangeFits}
 

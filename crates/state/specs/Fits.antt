@@ -9,10 +9,10 @@ use Rattle.profile.specs.declared.Area.{Area}
 use Rattle.profile.specs.declared.Profile.{Profile}
 use Rattle.profile.specs.declared.Window.{Window}
 use Rattle.profile.specs.Areas.{areasOf}
-use Rattle.ranges.specs.declared.Purpose.{Purpose}
-use Rattle.ranges.specs.declared.Purpose.the-variants.{Write, Read}
-use Rattle.ranges.specs.Ranges.{rangeChecks}
-pub use Rattle.ranges.specs.Ranges.{passes}
+use Rattle.profile_ranges.specs.declared.Purpose.{Purpose}
+use Rattle.profile_ranges.specs.declared.Purpose.the-variants.{Write, Read}
+use Rattle.profile_ranges.specs.Ranges.{rangeChecks}
+pub use Rattle.profile_ranges.specs.Ranges.{passes}
 use Rattle.packet.specs.declared.Kind.{Kind}
 use Rattle.packet.specs.declared.Kind.the-variants.{Command as CommandPacket, Data as DataPacket}
 use Rattle.packet.specs.Packet.{progressOf, isPartial}

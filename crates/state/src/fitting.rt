@@ -10,7 +10,7 @@ use packet::waits;
 use profile::Place;
 use profile::Profile;
 use profile::Window;
-use ranges::Purpose;
+use profile_ranges::Purpose;
 
 // Whether held bytes may await their rest in the stage.
 fn held_fits(stage: Stage, held: &[u8]) -> bool
@@ -42,7 +42,7 @@ fn range_fits(profile: Profile, window: Window, purpose: Purpose, range: Range) 
         Place::Nowhere => false,
         Place::In(spot) => {
             let area = spot.area;
-            ranges::within(area, window, purpose, range.next, last)
+            profile_ranges::within(area, window, purpose, range.next, last)
         }
     }
 }

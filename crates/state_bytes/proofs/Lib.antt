@@ -1,2 +1,3 @@
 pub mod Wrap
 pub mod Put
+pub mod StateRoundTrip

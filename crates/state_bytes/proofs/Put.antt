@@ -12,9 +12,9 @@ use Rattle.baud.specs.declared.LineSetting.{LineSetting}
 use Rattle.state.specs.declared.Range.{Range}
 use Rattle.state.specs.declared.Stage.{Stage}
 use Rattle.state.specs.declared.State.{State}
-use Rattle.fields.specs.Fields.{bytesFrom}
+use Rattle.packet_fields.specs.Fields.{bytesFrom}
 use Rattle.state_bytes.specs.State.{stageNumber, pulsesOf, rangeOf, stageBytes, stateBytes}
-use Rattle.fields.proofs.Spelled.{spelled}
+use Rattle.packet_fields.proofs.Spelled.{spelled}
 use Rattle.state_bytes.proofs.Wrap.{wrapped}
 
 -- a number where there is room for it

@@ -13,7 +13,7 @@ use Rattle.state.specs.declared.Range.{Range}
 use Rattle.state.specs.declared.Stage.{Stage}
 use Rattle.state.specs.declared.Stage.the-variants.{Setting, Authentication, Command, Writing, Reading}
 use Rattle.state.specs.declared.State.{State}
-use Rattle.fields.specs.Fields.{fourAt, bytesFrom}
+use Rattle.packet_fields.specs.Fields.{fourAt, bytesFrom}
 use Rattle.state_bytes.specs.declared.StageIn.{StageIn}
 use Rattle.state_bytes.specs.declared.StageIn.the-variants.{Is, NoStage}
 

@@ -6,7 +6,7 @@ ghost use lib.Dec.{eqb};
 ghost use lib.ListN.{length};
 ghost use lib.Seq.{sets, paste};
 ghost use Rattle.numbers.specs.Bytes.{bytesOf};
-ghost use Rattle.fields.specs.Fields.{bytesFrom};
+ghost use Rattle.packet_fields.specs.Fields.{bytesFrom};
 ghost use Rattle.state_bytes.specs.State.{stageNumber, pulseNumber, pulsesOf, rangeOf, stageBytes, stageOf, settingIn, stageIn, stateWith, stateOver};
 use baud::LineSetting;
 use numbers::lower;
@@ -83,10 +83,14 @@ pub fn stage_in(bytes: &[u8]) -> StageIn
         return StageIn::NoStage;
     }
     let range = Range {
-        next: fields::four_at(bytes, 2),
-        left: fields::four_at(bytes, 6),
+        next: packet_fields::four_at(bytes, 2),
+        left: packet_fields::four_at(bytes, 6),
     };
-    stage_of(fields::byte_at(bytes, 0), fields::byte_at(bytes, 1), range)
+    stage_of(
+        packet_fields::byte_at(bytes, 0),
+        packet_fields::byte_at(bytes, 1),
+        range,
+    )
 }
 
 // The sixteen bytes of the ID, in one copy; 0 where they are not there.
@@ -106,15 +110,15 @@ pub fn state_in(bytes: &[u8], stage: Stage) -> State
 {
     let id = id_in(bytes);
     let line = LineSetting {
-        abcs: fields::byte_at(bytes, 26),
-        brr: fields::byte_at(bytes, 27),
-        mddr: fields::byte_at(bytes, 28),
+        abcs: packet_fields::byte_at(bytes, 26),
+        brr: packet_fields::byte_at(bytes, 27),
+        mddr: packet_fields::byte_at(bytes, 28),
     };
     State {
         stage,
         id,
         line,
-        held: fields::four_at(bytes, 29) as usize,
+        held: packet_fields::four_at(bytes, 29) as usize,
     }
 }
 

@@ -5,7 +5,7 @@ use criterion::black_box;
 use std::time::{Duration, Instant};
 
 // Not together with the library of the device: both archives hold what they share.
-#[link(name = "gauge", kind = "static")]
+#[link(name = "interface_blank", kind = "static")]
 extern "C" {
     fn indraveck_first_dirty(target: *const u8, length: usize, unit: usize) -> usize;
 }

@@ -1,6 +1,6 @@
 -- `answer::send` meets its contract. The data reply has room, so it stands at the buffer's front. Assumes nothing.
 use Rattle.answer.proofs.Sending.{sent}
-use Rattle.reply.specs.Reply.{dataContents}
+use Rattle.packet_reply.specs.Reply.{dataContents}
 use lib.ListN.{length}
 use native.Mathlib.Omega.{arith}
 use Prim.Native.Nat.{_≤_}

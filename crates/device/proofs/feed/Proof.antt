@@ -1,6 +1,6 @@
 -- `device::feed` meets its contract. A call to which no row applies has what a run asks; another leaves all as it was. Assumes nothing.
 use Rattle.device.proofs.Turns.{accepted-row, fed-ran, fed-refused}
-use Rattle.calls.proofs.Rows.{rows-ready}
+use Rattle.device_calls.proofs.Rows.{rows-ready}
 use lib.ListN.{length}
 use borrow.Author.Needs.{needs}
 use Rattle.device.proofs.feed.Statement.{statement}

@@ -2,10 +2,10 @@
 use lib.ListN.{length}
 use Rattle.interface.proofs.Refusals.{begin-no-profile, begin-refused, begin-no-room, begin-accepted}
 use Rattle.profile_bytes.specs.Profile.{profileIn}
-use Rattle.calls.proofs.Rows.{begun}
-use Rattle.calls.specs.declared.Refusal.the-variants.{Unacceptable, WrongState}
-use Rattle.calls.specs.declared.Refusal.{Refusal}
-use Rattle.calls.specs.Calls.{startedAt}
+use Rattle.device_calls.proofs.Rows.{begun}
+use Rattle.device_calls.specs.declared.Refusal.the-variants.{Unacceptable, WrongState}
+use Rattle.device_calls.specs.declared.Refusal.{Refusal}
+use Rattle.device_calls.specs.Calls.{startedAt}
 use borrow.Author.Needs.{needs}
 use Rattle.interface.proofs.begin.Statement.{statement}
 use Rattle.interface.proofs.begin.Tie as tie

@@ -1,7 +1,7 @@
 -- `interface::feed_state` meets its contract. What the device's feed left, with the state in its bytes. Assumes nothing.
-use Rattle.machine.specs.Feed.{feedOf}
-use Rattle.machine.specs.Step.{machineOf}
-use Rattle.calls.specs.Calls.{feedRows, refusalOf}
+use Rattle.device_steps.specs.Feed.{feedOf}
+use Rattle.device_steps.specs.Step.{machineOf}
+use Rattle.device_calls.specs.Calls.{feedRows, refusalOf}
 use Rattle.verdict.specs.Check.{firstFault}
 use lib.ListN.{length}
 use Rattle.interface.proofs.Written.{fed-bytes}

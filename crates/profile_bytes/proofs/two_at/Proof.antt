@@ -1,7 +1,7 @@
 -- `profile_bytes::two_at` meets its contract. The number that was read, or 0, is the value of the field; two bytes keep it in 16 bits. Assumes nothing.
 use native.Mathlib.Omega.{arith}
-use Rattle.fields.proofs.Spelled.{two-small}
-use Rattle.fields.specs.Fields.{valueOf, twoAt}
+use Rattle.packet_fields.proofs.Spelled.{two-small}
+use Rattle.packet_fields.specs.Fields.{valueOf, twoAt}
 use mathlib.Core.Path.{sym, ap, _∙_}
 use borrow.Author.Needs.{needs}
 use Rattle.profile_bytes.proofs.two_at.Statement.{statement}

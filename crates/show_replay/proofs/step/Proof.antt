@@ -1,7 +1,7 @@
 -- `show_replay::step` is safe. What is delivered lies inside the script. Assumes nothing.
 use mathlib.Core.Path.{subst}
 use lib.ListN.{length}
-use Rattle.delivering.specs.Stands.{Inside}
+use Rattle.record_driver.specs.Stands.{Inside}
 use borrow.Author.Needs.{needs}
 use Rattle.show_replay.proofs.step.Statement.{statement}
 use Rattle.show_replay.proofs.step.Tie as tie

@@ -1,8 +1,8 @@
 -- `state_bytes::id_in` meets its contract. The part is copied to the front of sixteen 0, which stay where there are no bytes. Assumes nothing.
 use mathlib.Core.Path.{sym, _∙_}
 use lib.ListN.{replicate}
-use Rattle.fields.proofs.Spelled.{from-there}
-use Rattle.identity.proofs.Padded.{laid}
+use Rattle.packet_fields.proofs.Spelled.{from-there}
+use Rattle.id_code.proofs.Padded.{laid}
 use borrow.Author.Needs.{needs}
 use Rattle.state_bytes.proofs.id_in.Statement.{statement}
 use Rattle.state_bytes.proofs.id_in.Tie as tie

@@ -1,0 +1,44 @@
+-- `check_transfer::check_next` meets its contract. The request is asked only where the ending is granted, so the lists stand one after the other. Assumes nothing.
+use mathlib.Core.Path.{sym, _∙_}
+use Rattle.check_transfer.specs.Transfer.{nextChecks, requestChecks}
+use Rattle.packet.specs.Packet.{endingChecks}
+use Rattle.verdict.proofs.FirstFault.{granted-then, refused-then}
+use borrow.Author.Needs.{needs}
+use Rattle.check_transfer.proofs.check_next.Statement.{statement}
+use Rattle.check_transfer.proofs.check_next.Tie as tie
+
+check-ending-requires : tie.Need-check-ending-requires
+check-ending-requires c κs = search needs
+
+enum-known-ending : tie.Need-enum-known-ending
+enum-known-ending c = search needs
+
+enum-told : tie.Need-enum-told
+enum-told c = search needs
+
+check-request-requires : tie.Need-check-request-requires
+check-request-requires c κs = search needs
+
+returns : tie.Need-returns
+unfolding nextChecks
+returns c =
+    let a = c .before .before .before .before .before .args in
+    sym (refused-then (endingChecks (a .packet .now)) (requestChecks (a .packet .now)) _ (sym (c .before .before .before .check-ending .ensures) ∙ c .before .ending .given .1))
+
+returns-2 : tie.Need-returns-2
+unfolding nextChecks
+returns-2 c =
+    let a = c .before .before .before .before .before .args in
+    c .check-request .ensures
+    ∙ sym (granted-then (endingChecks (a .packet .now)) (requestChecks (a .packet .now)) (sym (c .before .before .before .check-ending .ensures) ∙ c .before .enum-told .given .1))
+
+pub check-next-spec : {M : Type 1} → statement M
+check-next-spec =
+    tie.close
+    (tie.spec
+    check-ending-requires
+    enum-known-ending
+    enum-told
+    check-request-requires
+    returns
+    returns-2)

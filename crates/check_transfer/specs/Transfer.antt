@@ -1,0 +1,62 @@
+-- The packets of a write and of a read that is under way: their checks in order.
+use mathlib.Core.Bool.{Bool, true, false, _&&_, not}
+use mathlib.Core.List.{List, [], _∷_, _++_}
+use Prim.Native.Nat.{ℕ, _%_}
+use lib.ListN.{getD}
+use lib.Dec.{ltb, eqb}
+use Rattle.verdict.specs.declared.Reason.{Reason}
+use Rattle.verdict.specs.declared.Reason.the-variants.{NotWriteData, NoData, TooMuchData, BrokenUnit, DirtyFlash, NotNextRequest}
+use Rattle.verdict.specs.Check.{Check, _gives_}
+use Rattle.profile.specs.declared.Area.{Area}
+use Rattle.profile.specs.declared.Place.{Place}
+use Rattle.profile.specs.declared.Place.the-variants.{In, Nowhere}
+use Rattle.profile.specs.Places.{placeOf}
+use Rattle.packet.specs.Packet.{endingChecks}
+use Rattle.flash_blank.specs.declared.Search.{Search}
+use Rattle.flash_blank.specs.declared.Search.the-variants.{Clean, Dirty}
+use Rattle.flash.specs.Effects.{fetched}
+use Rattle.flash_blank.specs.Blank.{searched}
+use Rattle.state.specs.declared.Range.{Range}
+use Rattle.packet_fields.specs.Fields.{codeAt, infoCount}
+
+-- WAU of the area that holds the next address
+abbrev pub unitAt : Place → ℕ
+unitAt (In spot) = spot .area .wau
+unitAt Nowhere = 0
+
+abbrev pub isDirty : Search → Bool
+isDirty Clean = false
+isDirty (Dirty n) = true
+
+-- RES, the amount and its unit
+unfoldable pub dataChecks : ℕ → ℕ → List ℕ → List (Check Reason)
+dataChecks left unit q =
+    (not (eqb (codeAt q) 0x13) gives NotWriteData)
+    ∷ (eqb (infoCount q) 0 gives NoData)
+    ∷ (ltb left (infoCount q) gives TooMuchData)
+    ∷ (not (eqb (infoCount q % unit) 0) gives BrokenUnit)
+    ∷ []
+
+-- the packet's target holds a unit that is not blank
+unfoldable pub blankChecks : List Area → List ℕ → ℕ → ℕ → ℕ → List (Check Reason)
+blankChecks areas image next unit count = (isDirty (searched unit (fetched areas next count image)) gives DirtyFlash) ∷ []
+
+-- the amount, then the target
+unfoldable pub targetChecks : List Area → List ℕ → Range → List ℕ → List (Check Reason)
+targetChecks areas image r q =
+    dataChecks (r .left) (unitAt (placeOf areas (r .next))) q
+    ++ blankChecks areas image (r .next) (unitAt (placeOf areas (r .next))) (infoCount q)
+
+-- ETX and SUM before all
+unfoldable pub writeChecks : List Area → List ℕ → Range → List ℕ → List (Check Reason)
+writeChecks areas image r q = endingChecks q ++ targetChecks areas image r q
+
+-- only 81 00 02 15 00 E9 03 asks for the next packet
+unfoldable pub asksNext : List ℕ → Bool
+asksNext q = eqb (codeAt q) 0x15 && (eqb (infoCount q) 1 && eqb (getD q 4 0) 0x00)
+
+unfoldable pub requestChecks : List ℕ → List (Check Reason)
+requestChecks q = (not (asksNext q) gives NotNextRequest) ∷ []
+
+unfoldable pub nextChecks : List ℕ → List (Check Reason)
+nextChecks q = endingChecks q ++ requestChecks q

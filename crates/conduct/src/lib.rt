@@ -1,1 +1,0 @@
-// How the device conducts itself: laws about its definitions alone, of demands 1 and 2, in proofs/. There is no code here.

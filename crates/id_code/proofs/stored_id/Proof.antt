@@ -1,0 +1,31 @@
+-- `id_code::stored_id` meets its contract. The found place says which bytes `idAt` reads. Assumes nothing.
+use mathlib.Core.Path.{subst, sym, ap, _∙_}
+use borrow.Author.Needs.{needs}
+use Rattle.id_code.specs.Identity.{PlacedBelow, idAt, idOf}
+use Rattle.id_code.proofs.stored_id.Statement.{statement}
+use Rattle.id_code.proofs.stored_id.Tie as tie
+
+config-area-requires : tie.Need-config-area-requires
+config-area-requires c κs = search needs
+
+enum-told : tie.Need-enum-told
+enum-told c = search needs
+
+enum-known-place : tie.Need-enum-known-place
+enum-known-place c = search needs
+
+sixteen-requires : tie.Need-sixteen-requires
+sixteen-requires c κs = subst PlacedBelow (c .before .place .given .1) (c .before .before .before .config-area .ensures .bound)
+
+returns : tie.Need-returns
+unfolding idOf idAt
+returns c = ap (λ p. idAt p (c .before .before .before .before .args .image .now)) (sym (c .enum-told .given .1) ∙ c .before .before .config-area .ensures .is)
+
+returns-2 : tie.Need-returns-2
+unfolding idOf idAt
+returns-2 c = c .sixteen .ensures ∙ ap (λ p. idAt p (c .before .before .before .before .before .before .args .image .now)) (sym (c .before .before .place .given .1) ∙ c .before .before .before .before .config-area .ensures .is)
+
+pub stored-id-spec : {M : Type 1} → statement M
+stored-id-spec =
+    tie.close
+    (tie.spec config-area-requires enum-told enum-known-place sixteen-requires returns returns-2)

@@ -1,4 +1,0 @@
-pub mod Delivered
-pub mod Going
-pub mod Settles
-pub mod Kept

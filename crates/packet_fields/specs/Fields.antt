@@ -1,0 +1,75 @@
+-- What stands in a packet: its COM or RES and which command that is, its information, and the numbers in it.
+use mathlib.Core.Bool.{cond}
+use mathlib.Core.List.{List, [], _∷_}
+use Prim.Native.Nat.{ℕ, zero, suc, _+_, _-_}
+use lib.ListN.{length, take, drop, getD}
+use lib.Dec.{eqb}
+use Rattle.numbers.specs.declared.Number.{Number}
+use Rattle.numbers.specs.declared.Number.the-variants.{Is, CutShort}
+use Rattle.numbers.specs.Bytes.{numberAt}
+use Rattle.packet_fields.specs.declared.Com.{Com}
+use Rattle.packet_fields.specs.declared.Com.the-variants.{Inquiry, Erase, Write, Read, Authenticate, Baud, Signature, Area, Unknown}
+
+-- the command of a number
+unfoldable pub comOf : ℕ → Com
+comOf n =
+    cond (eqb n 0x00) Inquiry
+    (cond (eqb n 0x12) Erase
+    (cond (eqb n 0x13) Write
+    (cond (eqb n 0x15) Read
+    (cond (eqb n 0x30) Authenticate
+    (cond (eqb n 0x34) Baud
+    (cond (eqb n 0x3A) Signature
+    (cond (eqb n 0x3B) Area
+    Unknown)))))))
+
+-- COM or RES of a packet, and the bytes between it and SUM
+abbrev pub codeAt : List ℕ → ℕ
+codeAt q = getD q 3 0
+
+abbrev pub infoCount : List ℕ → ℕ
+infoCount q = length q - 6
+
+abbrev pub infoOf : List ℕ → List ℕ
+infoOf q = take (infoCount q) (drop 4 q)
+
+-- the number in the four bytes from a place on; a command of the right length has them
+abbrev pub valueOf : Number → ℕ
+valueOf (Is n) = n
+valueOf CutShort = 0
+
+unfoldable pub fourAt : List ℕ → ℕ → ℕ
+fourAt q at = valueOf (numberAt 4 q at)
+
+-- SAD and EAD of a range, BRT of a rate, and an area's number
+abbrev pub sadOf : List ℕ → ℕ
+sadOf q = fourAt q 4
+
+abbrev pub eadOf : List ℕ → ℕ
+eadOf q = fourAt q 8
+
+abbrev pub brtOf : List ℕ → ℕ
+brtOf q = fourAt q 4
+
+abbrev pub numberOf : List ℕ → ℕ
+numberOf q = getD q 4 0
+
+abbrev pub infoLength : Com → ℕ
+infoLength Inquiry = 0
+infoLength Erase = 8
+infoLength Write = 8
+infoLength Read = 8
+infoLength Authenticate = 16
+infoLength Baud = 4
+infoLength Signature = 0
+infoLength Area = 1
+infoLength Unknown = 0
+
+-- the number in two bytes
+unfoldable pub twoAt : List ℕ → ℕ → ℕ
+twoAt bs at = valueOf (numberAt 2 bs at)
+
+-- n single bytes from a place on
+unfoldable pub bytesFrom : ℕ → ℕ → List ℕ → List ℕ
+bytesFrom zero at bs = []
+bytesFrom (suc n) at bs = getD bs at 0 ∷ bytesFrom n (at + 1) bs

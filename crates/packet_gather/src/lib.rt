@@ -1,0 +1,95 @@
+// Bytes that only add to an incomplete packet, taken in one copy.
+ghost use mathlib.Core.Path.{_≡_};
+ghost use Prim.Native.Nat.{_+_, _≤_};
+ghost use lib.ListN.{length};
+ghost use lib.Seq.{paste};
+ghost use Rattle.packet_gather.specs.Gather.{held, lackOf, openOf, gainOf, Holds, Taken};
+use numbers::Number;
+use numbers::lower;
+use packet::Kind;
+use state::Stage;
+use state::State;
+
+// The state with this many bytes held.
+pub fn holding(state: State, count: usize) -> State
+    ensures { λ r. ⌜ r ≡ held count state ⌝ }
+{
+    let stage = state.stage;
+    let id = state.id;
+    let line = state.line;
+    State {
+        stage,
+        id,
+        line,
+        held: count,
+    }
+}
+
+// The first `count` bytes of `from`, to `receive` from `at` on. A serial line brings one at a time, which needs no loop.
+fn place(receive: &mut [u8], at: usize, from: &[u8], count: usize)
+    requires { ⌜ (at + count ≤ length (now receive)) × (count ≤ length (now from)) ⌝ }
+    ensures { λ _. ⌜ now (receive .exit) ≡ paste (now (receive .entry)) at (now (from .entry)) count ⌝ }
+{
+    if count == 1 {
+        receive[at] = from[0];
+        return;
+    }
+    let end = at + count;
+    bytes::copy(&from[..count], &mut receive[at..end]);
+}
+
+// How many bytes can come before the packet's last; none where its length has not come.
+fn lacking(packet: &[u8]) -> usize
+    ensures { λ r. ⌜ r ≡ lackOf (now (packet .entry)) ⌝ }
+{
+    let length = numbers::read_two(packet, 1);
+    match length {
+        Number::CutShort => 0,
+        Number::Is(n) => {
+            let last = n as usize + 4;
+            if packet.len() < last {
+                return last - packet.len();
+            }
+            0
+        }
+    }
+}
+
+// How many bytes of input can come before the last of the packet of the kind that they begin; none where they begin none.
+fn opening(kind: Kind, input: &[u8]) -> usize
+    ensures { λ r. ⌜ r ≡ openOf kind (now (input .entry)) ⌝ }
+{
+    if input.len() < 3 {
+        return 0;
+    }
+    if !packet::waits(&input[..3], kind) {
+        return 0;
+    }
+    lacking(&input[..3]) + 3
+}
+
+// How many can come behind the bytes that are held; where none are, by what the stage awaits.
+fn gain(stage: Stage, held: &[u8], input: &[u8]) -> usize
+    ensures { λ r. ⌜ r ≡ gainOf stage (now (held .entry)) (now (input .entry)) ⌝ }
+{
+    if held.len() != 0 {
+        return lacking(held);
+    }
+    match stage {
+        Stage::Setting(_) => 0,
+        Stage::Authentication => opening(Kind::Command, input),
+        Stage::Command => opening(Kind::Command, input),
+        Stage::Writing(_) => opening(Kind::Data, input),
+        Stage::Reading(_) => opening(Kind::Data, input),
+    }
+}
+
+// As many bytes of input as can come before the packet's last, put behind the `held` ones; how many they are.
+pub fn gather(stage: Stage, held: usize, receive: &mut [u8], input: &[u8]) -> usize
+    requires { ⌜ Holds stage held (now receive) ⌝ }
+    ensures { λ r. ⌜ Taken stage held (now (input .entry)) r (now (receive .entry)) (now (receive .exit)) ⌝ }
+{
+    let taken = lower(gain(stage, &receive[..held], input), input.len());
+    place(receive, held, input, taken);
+    taken
+}

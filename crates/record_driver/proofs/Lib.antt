@@ -1,0 +1,4 @@
+pub mod Driving
+pub mod Playing
+pub mod Called
+pub mod Deliveries

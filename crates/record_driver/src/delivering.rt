@@ -1,0 +1,66 @@
+// One record of a script, given to a device: a delivery, a reset, or nothing.
+ghost use lib.ListN.{length};
+ghost use Rattle.device_steps.specs.Step.{machineOf};
+ghost use Rattle.device_calls.specs.Ready.{Ready};
+ghost use Rattle.record_history.specs.History.{hearing, machineAfter, repliesOver, bufferAfter};
+ghost use Rattle.record_driver.specs.Stands.{Stands, Inside, callsAt};
+use profile::Profile;
+use recording::Found;
+use state::State;
+
+// A delivery, and again what a reply left unread.
+fn deliver(
+    profile: Profile,
+    image: &mut [u8],
+    state: State,
+    receive: &mut [u8],
+    reply: &mut [u8],
+    input: &[u8],
+) -> State
+    requires { ⌜ Ready profile (length (now image)) state (now receive) (length (now reply)) ⌝ }
+    ensures { λ r. ⌜ Stands profile (hearing profile (machineOf (now (image .entry)) state (now (receive .entry))) (now (input .entry)))
+        (repliesOver profile (machineOf (now (image .entry)) state (now (receive .entry))) (now (input .entry)) (now (reply .entry)))
+        r (now (image .exit)) (now (receive .exit)) (now (reply .exit)) ⌝ }
+{
+    let n = input.len();
+    let mut st = state;
+    let mut at = 0;
+    while at < n {
+        let fed = device::feed(profile, image, st, receive, reply, &input[at..]);
+        let used = fed.consumed;
+        st = fed.state;
+        at += used;
+    }
+    st
+}
+
+// A record of a script that was found.
+pub fn call(
+    profile: Profile,
+    image: &mut [u8],
+    state: State,
+    receive: &mut [u8],
+    reply: &mut [u8],
+    script: &[u8],
+    found: Found,
+) -> State
+    requires { ⌜ Ready profile (length (now image)) state (now receive) (length (now reply)) × Inside (length (now script)) found ⌝ }
+    ensures { λ r. ⌜ Stands profile (machineAfter profile (machineOf (now (image .entry)) state (now (receive .entry))) (callsAt (now (script .entry)) found))
+        (bufferAfter profile (machineOf (now (image .entry)) state (now (receive .entry))) (callsAt (now (script .entry)) found) (now (reply .entry)))
+        r (now (image .exit)) (now (receive .exit)) (now (reply .exit)) ⌝ }
+{
+    match found {
+        Found::Host(part) => {
+            let from = part.from;
+            let to = part.to;
+            deliver(profile, image, state, receive, reply, &script[from..to])
+        }
+        Found::Device(_) => state,
+        Found::Reset(_) => {
+            let begun = device::reset(profile, image, state);
+            begun.state
+        }
+        Found::End => state,
+        Found::Unreadable => state,
+    }
+}

@@ -1,0 +1,80 @@
+-- Demand 3, whole: after any history from a fresh state the flash is the replay, and the next call is accepted. Assumes nothing.
+use mathlib.Core.List.{List, [], _∷_, _++_}
+use mathlib.Core.Path.{_≡_, refl, sym, ap, _∙_}
+use Prim.Native.Nat.{ℕ, _<_}
+use native.Mathlib.Omega.{arith}
+use lib.ListN.{length}
+use Rattle.profile.specs.declared.Area.{Area}
+use Rattle.profile.specs.declared.Profile.{Profile}
+use Rattle.profile.specs.Areas.{areasOf, totalOf}
+use Rattle.profile_rules.specs.Rules.{Accepted}
+use Rattle.record_exchange.specs.Line.{Entry}
+use Rattle.record_exchange.specs.Replay.{replay}
+use Rattle.device_steps.specs.Step.{Machine, stepOf}
+use Rattle.device_steps.specs.Fits.{FitMachine}
+use Rattle.device_steps.proofs.Kept.{fresh-fits, still-fits, kept-length, state-fits, held-short}
+use Rattle.device_calls.proofs.Rows.{start-accepts, ready-rows}
+use Rattle.record_history.specs.History.{Call, deliver, again, freshOf, hearing, machineAfter, recordOf}
+use Rattle.record_history.specs.Faithful.{NextAccepted, Faithful}
+use Rattle.record_history.proofs.Replayed.{replayed}
+
+-- the machine fits all along, and its image keeps its length
+pub hearing-fits : (p : Profile) → Accepted p → (m : Machine) (bs : List ℕ) → FitMachine p m → FitMachine p (hearing p m bs)
+unfolding hearing
+hearing-fits p accepted m [] f = f
+hearing-fits p accepted m (b ∷ bs) f = hearing-fits p accepted (stepOf p m b .machine) bs (still-fits p accepted m b f)
+
+pub hearing-length : (p : Profile) (m : Machine) (bs : List ℕ) → length (hearing p m bs .image) ≡ length (m .image)
+unfolding hearing
+hearing-length p m [] = refl
+hearing-length p m (b ∷ bs) = hearing-length p (stepOf p m b .machine) bs ∙ kept-length p m b
+
+pub history-fits : (p : Profile) → Accepted p → (m : Machine) (calls : List Call) → FitMachine p m → FitMachine p (machineAfter p m calls)
+unfolding machineAfter
+history-fits p accepted m [] f = f
+history-fits p accepted m (deliver bs ∷ more) f = history-fits p accepted (hearing p m bs) more (hearing-fits p accepted m bs f)
+history-fits p accepted m (again ∷ more) f = history-fits p accepted (freshOf p (m .image)) more (fresh-fits p (m .image))
+
+pub history-length : (p : Profile) (m : Machine) (calls : List Call) → length (machineAfter p m calls .image) ≡ length (m .image)
+unfolding machineAfter
+history-length p m [] = refl
+history-length p m (deliver bs ∷ more) = history-length p (hearing p m bs) more ∙ hearing-length p m bs
+history-length p m (again ∷ more) = history-length p (freshOf p (m .image)) more
+
+-- a machine that fits has its next call accepted
+pub next-accepted : (p : Profile) → Accepted p → (m : Machine) → length (m .image) ≡ totalOf (areasOf p) → FitMachine p m → NextAccepted p m
+next-accepted p accepted m e f =
+    record {
+      resets = start-accepts p (length (m .image)) accepted e;
+      feeds = λ receive room held wide long.
+          let few : length (m .held) < 1030 = held-short p m f in
+          let count : m .state .held ≡ length (m .held) = f .count in
+          ready-rows p (length (m .image)) (m .state) receive room
+          (record { profile = accepted; image = e; receive = wide; reply = long; fit = state-fits p m receive f held (omega arith) });
+    }
+
+pub faithful : (p : Profile) → Accepted p → (image : List ℕ) → length image ≡ totalOf (areasOf p) → (calls : List Call) → Faithful p image calls
+faithful p accepted image e calls =
+    record {
+      flash = replayed p image calls;
+      accepted =
+          next-accepted p accepted (machineAfter p (freshOf p image) calls) (history-length p (freshOf p image) calls ∙ e)
+          (history-fits p accepted (freshOf p image) calls (fresh-fits p image));
+    }
+
+-- the line's record and the areas tell the flash, whatever else the profiles and the histories are
+pub same-record : (p p′ : Profile) (image : List ℕ) (calls calls′ : List Call) → areasOf p ≡ areasOf p′
+    → recordOf p (freshOf p image) calls ≡ recordOf p′ (freshOf p′ image) calls′
+    → machineAfter p (freshOf p image) calls .image ≡ machineAfter p′ (freshOf p′ image) calls′ .image
+same-record p p′ image calls calls′ areas e =
+    replayed p image calls
+    ∙ ap (λ (a : List Area). replay a image (recordOf p (freshOf p image) calls)) areas
+    ∙ ap (λ (es : List Entry). replay (areasOf p′) image es) e
+    ∙ sym (replayed p′ image calls′)
+
+-- a reset leaves the flash as it is
+pub reset-keeps : (p : Profile) (m : Machine) (calls : List Call) → machineAfter p m (calls ++ again ∷ []) .image ≡ machineAfter p m calls .image
+unfolding machineAfter
+reset-keeps p m [] = refl
+reset-keeps p m (deliver bs ∷ calls) = reset-keeps p (hearing p m bs) calls
+reset-keeps p m (again ∷ calls) = reset-keeps p (freshOf p (m .image)) calls

@@ -1,0 +1,75 @@
+-- What stands in the record: requests that were answered with a packet, with that packet; without an answer nothing, and nothing of waking up. Assumes nothing.
+use mathlib.Core.Bool.{Bool, true, false, _||_, cond}
+use mathlib.Core.List.{List, [], _∷_}
+use mathlib.Core.Logic.{inl, inr}
+use mathlib.Core.Path.{_≡_, refl, sym, ap, subst}
+use Prim.Native.Nat.{ℕ, _≤_, _<_}
+use native.Mathlib.Omega.{arith}
+use lib.ListN.{length}
+use Rattle.profile.specs.declared.Profile.{Profile}
+use Rattle.packet.specs.Packet.{isComplete}
+use Rattle.packet.proofs.Laws.{impossible}
+use Rattle.state.specs.declared.Pulse.{Pulse}
+use Rattle.state.specs.declared.Stage.{Stage}
+use Rattle.state.specs.declared.Stage.the-variants.{Setting}
+use Rattle.record_exchange.specs.Line.{exchange}
+use Rattle.device_steps.specs.Step.{Machine, stepOf}
+use Rattle.device_steps.specs.Feed.{Delivery, feedOf}
+use Rattle.device_steps.specs.Records.{isUnfit, progressIn, heardWith, completes, refuses}
+use Rattle.device_steps.proofs.Delivered.{by-reply}
+use Rattle.device_steps.proofs.Replies.{IsPacket, packet-least, Asked, packet-step}
+use Rattle.record_history.specs.History.{entriesAt, heardRecord}
+
+-- an entry that a byte adds: all that is held and the byte, with the reply that the byte brings, which is a packet
+pub record Told (p : Profile) (m : Machine) (b : ℕ) (q reply : List ℕ) : Type 0 where
+  pub request : q ≡ heardWith m b
+  pub answer : reply ≡ stepOf p m b .reply
+  pub packet : IsPacket reply
+  pub some : 0 < length reply
+
+module _ (p : Profile) (m : Machine) (b : ℕ) where
+  asked : (s t : Bool) → completes m b ≡ s → refuses m b ≡ t → (s || t) ≡ true → Asked m b
+  asked true t c f h = inl c
+  asked false true c f h = inr f
+  asked false false c f h = impossible (cc)
+
+  -- a byte that adds an entry is answered with a packet
+  recorded-packet : (completes m b || refuses m b) ≡ true → IsPacket (stepOf p m b .reply)
+  recorded-packet h = packet-step p m b (asked (completes m b) (refuses m b) refl refl h)
+
+  -- and a byte that is answered with none adds none
+  pub unanswered-entry : length (stepOf p m b .reply) ≡ 0 → entriesAt p m b ≡ []
+  unfolding entriesAt
+  unanswered-entry e = by (completes m b || refuses m b) refl
+    where
+      by : (t : Bool) → (completes m b || refuses m b) ≡ t → cond t (exchange (heardWith m b) (stepOf p m b .reply) ∷ []) [] ≡ []
+      by true h = let k : 6 ≤ length (stepOf p m b .reply) = packet-least (recorded-packet h) in absurd (omega arith)
+      by false h = refl
+
+  -- waking up, with its answers, is in no record
+  pub waking-unrecorded : (u : Pulse) → m .state .stage ≡ Setting u → entriesAt p m b ≡ []
+  unfolding entriesAt completes refuses progressIn
+  waking-unrecorded u e =
+      let q : List ℕ = heardWith m b in
+      ap (λ (s : Stage). cond (isComplete (progressIn s q) || isUnfit (progressIn s q)) (exchange q (stepOf p m b .reply) ∷ []) []) e
+
+  pub entry-answered : (q reply : List ℕ) → entriesAt p m b ≡ exchange q reply ∷ [] → Told p m b q reply
+  unfolding entriesAt
+  entry-answered q reply e = by (completes m b || refuses m b) refl e
+    where
+      by : (t : Bool) → (completes m b || refuses m b) ≡ t
+          → cond t (exchange (heardWith m b) (stepOf p m b .reply) ∷ []) [] ≡ exchange q reply ∷ [] → Told p m b q reply
+      by true h k =
+          let r : reply ≡ stepOf p m b .reply = cc in
+          let packet : IsPacket reply = subst IsPacket (sym r) (recorded-packet h) in
+          record { request = cc; answer = r; packet = packet; some = omega (arith, packet-least packet) }
+      by false h k = impossible (cc)
+
+-- a delivery without an answer leaves no entry: a packet that is cut, noise, waking up
+pub unanswered-unrecorded : (p : Profile) (m : Machine) (bs : List ℕ) → length (feedOf p m bs .reply) ≡ 0 → heardRecord p m bs ≡ []
+unfolding heardRecord
+unanswered-unrecorded p m [] = λ e. refl
+unanswered-unrecorded p m (b ∷ bs) =
+    by-reply p m b bs (λ (d : Delivery). length (d .reply) ≡ 0 → heardRecord p m (b ∷ bs) ≡ [])
+    (λ quiet e. rw (unanswered-entry p m b quiet) (unanswered-unrecorded p (stepOf p m b .machine) bs e))
+    (λ answered e. absurd (omega arith))

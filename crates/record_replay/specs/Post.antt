@@ -1,0 +1,62 @@
+-- What playing a recording leaves.
+use mathlib.Core.Bool.{Bool, true, false}
+use mathlib.Core.List.{List}
+use mathlib.Core.Path.{_≡_}
+use mathlib.Core.Option.{Option, none, some}
+use Prim.Native.Nat.{ℕ, _+_, _≤_, _<_}
+use Rattle.profile.specs.declared.Profile.{Profile}
+use Rattle.profile.specs.Areas.{areasOf}
+use lib.ListN.{length}
+use Rattle.recording.specs.declared.Found.{Found}
+use Rattle.recording.specs.declared.Found.the-variants.{Host, Device, Reset, End, Unreadable}
+use Rattle.recording.specs.Recording.{bytesIn, recordsFrom, recordsOf, stopFrom, readable}
+use Rattle.record_exchange.specs.Line.{exchangesFrom, exchangesOf}
+use Rattle.record_exchange.specs.Replay.{Tape, replayFrom, replay}
+use Rattle.record_replay.specs.declared.Head.{Head}
+use Rattle.record_replay.specs.declared.Waiting.{Waiting}
+use Rattle.record_replay.specs.declared.Waiting.the-variants.{Nothing, For}
+use Rattle.record_exchange.specs.declared.Landing.{Landing}
+use Rattle.record_exchange.specs.declared.Landing.the-variants.{Nowhere, At}
+use Rattle.record_exchange.specs.Taped.{tapeOf}
+
+pub record Played (p : Profile) (recording before after : List ℕ) (r : ℕ) : Type 0 where
+  pub image : after ≡ replay (areasOf p) before (exchangesOf (recordsOf recording))
+  pub read : r ≡ readable recording
+
+-- a landing place of at most n
+abbrev pub LandsBelow : Landing → ℕ → Type 0
+LandsBelow Nowhere n = Unit {0}
+LandsBelow (At x) n = x ≤ n
+
+-- what waits for an answer, as the definition has it
+abbrev pub waitingOf : List ℕ → Waiting → Option (List ℕ)
+waitingOf recording Nothing = none
+waitingOf recording (For part) = some (bytesIn part recording)
+
+-- what playing on from a head gives
+abbrev pub playedFrom : Profile → List ℕ → List ℕ → Head → Tape
+playedFrom p recording image head =
+    replayFrom (areasOf p) (tapeOf image (head .landing)) (exchangesFrom (waitingOf recording (head .waiting)) (recordsFrom recording (head .at)))
+
+-- a part that waits lies before the head; a landing place is at most the highest address and what was read since
+abbrev pub WaitsBefore : Waiting → Landing → ℕ → Type 0
+WaitsBefore Nothing landing at = LandsBelow landing (4294967295 + at)
+WaitsBefore (For part) landing at = (part .from ≤ part .to) × (part .to ≤ at) × LandsBelow landing (4294967295 + part .from)
+
+pub record HeadIn (n : ℕ) (head : Head) : Type 0 where
+  pub inside : head .at ≤ n
+  pub waits : WaitsBefore (head .waiting) (head .landing) (head .at)
+
+-- one record further: what is left to play and where reading stops are the same
+pub record Advanced (p : Profile) (recording im₀ im : List ℕ) (head r : Head) : Type 0 where
+  pub plays : playedFrom p recording im r ≡ playedFrom p recording im₀ head
+  pub stops : stopFrom recording (r .at) ≡ stopFrom recording (head .at)
+  pub stands : HeadIn (length recording) r
+  pub further : head .at < r .at
+
+abbrev pub isRecord : Found → Bool
+isRecord (Host part) = true
+isRecord (Device part) = true
+isRecord (Reset part) = true
+isRecord End = false
+isRecord Unreadable = false

@@ -1,0 +1,117 @@
+// A recorded line, played on an image.
+ghost use mathlib.Core.Bool.{true};
+ghost use mathlib.Core.Path.{_≡_};
+ghost use lib.ListN.{length};
+ghost use Rattle.recording.specs.declared.Found.the-variants.{Device};
+ghost use Rattle.recording.specs.Recording.{foundAt};
+ghost use Rattle.record_replay.specs.Post.{HeadIn, Advanced, Played, isRecord};
+use profile::Profile;
+use record_exchange::Landing;
+use record_exchange::replay_exchange;
+use recording::Found;
+use recording::Part;
+
+// What the host sent last, while it has no answer.
+enum Waiting {
+    Nothing,
+    For(Part),
+}
+
+// How far a recording has been played.
+struct Head {
+    at: usize,
+    landing: Landing,
+    waiting: Waiting,
+}
+
+// Whether there is a record.
+fn is_record(found: Found) -> bool
+    ensures { λ r. ⌜ r ≡ isRecord found ⌝ }
+{
+    match found {
+        Found::Host(_) => true,
+        Found::Device(_) => true,
+        Found::Reset(_) => true,
+        Found::End => false,
+        Found::Unreadable => false,
+    }
+}
+
+// What the device sent answers what waits.
+fn answered(image: &mut [u8], profile: Profile, recording: &[u8], head: Head, part: Part) -> Head
+    requires { ⌜ HeadIn (length (now recording)) head × (foundAt (now recording) (head .at) ≡ Device part) ⌝ }
+    ensures { λ r. ⌜ Advanced profile (now (recording .entry)) (now (image .entry)) (now (image .exit)) head r ⌝ }
+{
+    let landing = head.landing;
+    let waiting = head.waiting;
+    match waiting {
+        Waiting::Nothing => Head {
+            at: part.to,
+            landing,
+            waiting: Waiting::Nothing,
+        },
+        Waiting::For(request) => {
+            let first = request.from;
+            let behind = request.to;
+            let from = part.from;
+            let to = part.to;
+            let next = replay_exchange(
+                image,
+                profile,
+                landing,
+                &recording[first..behind],
+                &recording[from..to],
+            );
+            Head {
+                at: to,
+                landing: next,
+                waiting: Waiting::Nothing,
+            }
+        }
+    }
+}
+
+// One record; without one nothing is left to play.
+fn advance(image: &mut [u8], profile: Profile, recording: &[u8], head: Head, found: Found) -> Head
+    requires { ⌜ HeadIn (length (now recording)) head × (found ≡ foundAt (now recording) (head .at)) × (isRecord found ≡ true) ⌝ }
+    ensures { λ r. ⌜ Advanced profile (now (recording .entry)) (now (image .entry)) (now (image .exit)) head r ⌝ }
+{
+    let landing = head.landing;
+    match found {
+        Found::Host(part) => Head {
+            at: part.to,
+            landing,
+            waiting: Waiting::For(part),
+        },
+        Found::Device(part) => answered(image, profile, recording, head, part),
+        Found::Reset(part) => {
+            let stays = head.landing;
+            Head {
+                at: part.to,
+                landing: stays,
+                waiting: Waiting::Nothing,
+            }
+        }
+        Found::End => head,
+        Found::Unreadable => head,
+    }
+}
+
+// Plays a recording on an image, and says how many of its bytes could be read: all, unless there is a record that cannot be.
+pub fn play(image: &mut [u8], profile: Profile, recording: &[u8]) -> usize
+    ensures { λ r. ⌜ Played profile (now (recording .entry)) (now (image .entry)) (now (image .exit)) r ⌝ }
+{
+    let mut head = Head {
+        at: 0,
+        landing: Landing::Nowhere,
+        waiting: Waiting::Nothing,
+    };
+    while head.at < recording.len() {
+        let found = recording::record_at(recording, head.at);
+        if !is_record(found) {
+            return head.at;
+        }
+        head = advance(image, profile, recording, head, found);
+    }
+    head.at
+}
