@@ -1,6 +1,5 @@
 -- The range of a granted command does not end at the last address, and the number of a granted area is below eight. Assumes nothing.
-use mathlib.Core.Bool.{Bool, true, false}
-use mathlib.Core.List.{List, [], _∷_}
+use mathlib.Core.List.{List}
 use mathlib.Core.Option.{none}
 use mathlib.Core.Path.{_≡_, refl, sym, ap, subst, _∙_}
 use Prim.Native.Nat.{ℕ, _+_, _-_, _≤_, _<_}
@@ -8,16 +7,11 @@ use native.Mathlib.Omega.{arith}
 use borrow.Author.Tests.{leb-false}
 use Rattle.verdict.specs.Check.{firstFault, NoneApplies}
 use Rattle.verdict.proofs.FirstFault.{clear}
-use Rattle.profile.specs.declared.Area.{Area}
 use Rattle.profile.specs.declared.Profile.{Profile}
-use Rattle.profile.specs.declared.Spot.{Spot}
 use Rattle.profile.specs.declared.Window.{Window}
-use Rattle.profile.specs.declared.Place.the-variants.{In}
-use Rattle.profile.specs.Areas.{areasOf, sizeOf, inside}
-use Rattle.profile.specs.Places.{placeFrom}
+use Rattle.profile.specs.Areas.{areasOf}
 use Rattle.profile_rules.specs.Rules.{Accepted}
-use Rattle.profile_rules.specs.Sound.{Ascending}
-use Rattle.profile_rules.proofs.Accepted.{sound}
+use Rattle.profile_rules.proofs.Accepted.{sound, below-top}
 use Rattle.profile_ranges.specs.declared.Purpose.{Purpose}
 use Rattle.profile_ranges.specs.declared.Purpose.the-variants.{Write as ToWrite, Read as ToRead}
 use Rattle.profile_ranges.specs.Ranges.{Permitted}
@@ -27,23 +21,10 @@ use Rattle.packet_fields.specs.declared.Com.the-variants.{Write, Read, Area as 
 use Rattle.state.specs.declared.Range.{Range}
 use Rattle.state.specs.declared.State.{State}
 use Rattle.state.specs.State.{windowOf}
-use Rattle.packet_fields.specs.Fields.{comOf, codeAt, sadOf, eadOf, numberOf}
-use Rattle.check_command.specs.Commands.{areaChecks, ownChecks, commandChecks}
+use Rattle.packet_fields.specs.Fields.{comOf, codeAt, sadOf, eadOf, areaNumberOf}
+use Rattle.check_command.specs.Commands.{areaNumberChecks, ownChecks, commandChecks}
 use Rattle.check_command.proofs.Granted.{own-clear, granted-write, granted-read}
 use Rattle.answer_command.specs.Grants.{spanOf}
-
--- an area of the table that was found ends below FFFFFFFFh
-below-top : (free base : ℕ) (areas : List Area) (x : ℕ) (spot : Spot) → Ascending free areas → placeFrom base areas x ≡ In spot → spot .area .ead < 0xFFFFFFFF
-unfolding Ascending placeFrom
-below-top free base [] x spot s e = let z : _≡_ {A = ℕ} 0 1 = cc in absurd (omega arith)
-below-top free base (a ∷ more) x spot s e = go (inside a x) refl (below-top (a .ead + 1) (base + sizeOf a) more x spot (s .1))
-  where
-    go : (t : Bool) → inside a x ≡ t → (placeFrom (base + sizeOf a) more x ≡ In spot → spot .area .ead < 0xFFFFFFFF) → spot .area .ead < 0xFFFFFFFF
-    go true i later =
-        let here : In (record { area = a; base = base }) ≡ In spot = rw i at e in
-        let it : record { area = a; base = base } ≡ spot = cc in
-        subst (λ (k : Spot). k .area .ead < 0xFFFFFFFF) it (s .0 .below-top)
-    go false i later = later (rw i at e)
 
 permitted-span : (p : Profile) (w : Window) (purpose : Purpose) (s e : ℕ) → Accepted p → Permitted (areasOf p) w purpose s e → (s ≤ e) × (e ≤ 4294967294)
 permitted-span p w purpose s e a g =
@@ -59,12 +40,12 @@ module _ (p : Profile) (st : State) (q : List ℕ) (a : Accepted p) (granted : f
   pub read-span : comOf (codeAt q) ≡ Read → (sadOf q ≤ eadOf q) × (eadOf q ≤ 4294967294)
   read-span e = permitted-span p (windowOf p st) ToRead (sadOf q) (eadOf q) a (granted-read p st q granted e)
 
-  pub area-number : comOf (codeAt q) ≡ ComArea → numberOf q < 8
-  unfolding ownChecks areaChecks NoneApplies
+  pub area-number : comOf (codeAt q) ≡ ComArea → areaNumberOf q < 8
+  unfolding ownChecks areaNumberChecks NoneApplies
   area-number e =
-      let own : firstFault (areaChecks (p .noa) q) ≡ none = ap (λ (k : Com). firstFault (ownChecks p st k q)) (sym e) ∙ own-clear p st q granted in
-      let n = clear (areaChecks (p .noa) q) own in
-      omega (arith, leb-false (p .noa) (numberOf q) (n .0), sound p a .at-most-eight)
+      let own : firstFault (areaNumberChecks (p .noa) q) ≡ none = ap (λ (k : Com). firstFault (ownChecks p st k q)) (sym e) ∙ own-clear p st q granted in
+      let n = clear (areaNumberChecks (p .noa) q) own in
+      omega (arith, leb-false (p .noa) (areaNumberOf q) (n .0), sound p a .at-most-eight)
 
 -- the range as it is reckoned without passing the last address
 pub span-is : (s e x y : ℕ) → x ≡ s → y ≡ e → s ≤ e → record { next = x; left = y - x + 1 } ≡ spanOf s e

@@ -1,32 +1,31 @@
 // What a complete command is answered.
 ghost use mathlib.Core.Path.{_≡_};
-ghost use mathlib.Core.Option.{none};
-ghost use Prim.Native.Nat.{_+_, _≤_, _<_};
-ghost use lib.ListN.{length, getD};
+ghost use Prim.Native.Nat.{_≤_, _<_};
+ghost use lib.ListN.{getD};
 ghost use Rattle.verdict.specs.declared.Verdict.the-variants.{Granted};
 ghost use Rattle.profile.specs.Areas.{noArea};
-ghost use Rattle.baud.specs.Rate.{settingOf};
-ghost use Rattle.packet_messages.specs.Messages.{areaMessage, signatureMessage};
-ghost use Rattle.packet_reply.specs.Reply.{statusReply, dataReply};
-ghost use Rattle.verdict.specs.Check.{firstFault};
 ghost use Rattle.profile_rules.specs.Rules.{Accepted};
-ghost use Rattle.packet_fields.specs.Fields.{codeAt, comOf, sadOf, eadOf, brtOf, numberOf};
-ghost use Rattle.check_command.specs.Commands.{commandChecks};
-ghost use Rattle.packet_fields.specs.declared.Com.the-variants.{Erase, Authenticate};
-ghost use Rattle.answer.specs.Answer.{moved};
-ghost use Rattle.answer_command.specs.Grants.{tuned, spanOf, grantOf, answerCommand};
-ghost use Rattle.answer.specs.Post.{Left, Sent};
+ghost use Rattle.baud.specs.Rate.{settingOf};
+ghost use Rattle.packet.specs.Frame.{Roomy};
+ghost use Rattle.packet_fields.specs.Fields.{sadOf, eadOf, brtOf, areaNumberOf};
+ghost use Rattle.packet_messages.specs.Messages.{areaMessage, signatureMessage};
+ghost use Rattle.flash.specs.declared.Act.the-variants.{Nothing, EraseRange};
+ghost use Rattle.state.specs.State.{withLine, withHeld};
+ghost use Rattle.answer.specs.Answer.{Answers};
+ghost use Rattle.answer_command.specs.Grants.{spanOf, told, shown, entered, grantOf, answerCommand};
+ghost use Rattle.answer_command.specs.Granted.{GrantedCommand};
 use answer::Answered;
 use answer::in_stage;
 use answer::send;
 use answer::tell;
 use answer_transfer::read_packet;
-use baud::LineSetting;
+use flash::Act;
 use packet_fields::Com;
 use profile::Profile;
 use state::Range;
 use state::Stage;
 use state::State;
+use state::with_held;
 use verdict::Verdict;
 
 // The range SAD to EAD of a command that was granted.
@@ -42,157 +41,120 @@ fn span(packet: &[u8]) -> Range
     }
 }
 
-fn with_line(state: State, line: LineSetting) -> State
-    ensures { λ r. ⌜ r ≡ tuned line state ⌝ }
+// A status reply OK.
+fn accept(reply: &mut [u8], act: Act, state: State, packet: &[u8]) -> Answered
+    requires { ⌜ Roomy (now reply) ⌝ }
+    ensures { λ r. ⌜ Answers (told (now (packet .entry)) Granted act state) r (now (reply .entry)) (now (reply .exit)) ⌝ }
 {
-    let stage = state.stage;
-    let id = state.id;
-    State {
-        stage,
-        id,
-        line,
-        held: 0,
-    }
+    tell(
+        reply,
+        act,
+        state,
+        packet_fields::byte_at(packet, 3),
+        Verdict::Granted,
+    )
 }
 
-// The state as it is, with nothing held.
-fn settled(state: State) -> State
-    ensures { λ r. ⌜ r ≡ moved (state .stage) state ⌝ }
-{
-    let stage = state.stage;
-    in_stage(state, stage)
-}
-
-fn grant_erase(
-    profile: Profile,
-    image: &mut [u8],
-    state: State,
-    packet: &[u8],
-    reply: &mut [u8],
-) -> Answered
-    requires { ⌜ 1030 ≤ length (now reply) ⌝ }
-    ensures { λ r. ⌜ Left (grantOf profile (now (image .entry)) state (now (packet .entry)) Erase) r (now (image .exit)) (now (reply .entry)) (now (reply .exit)) ⌝ }
+fn grant_erase(state: State, packet: &[u8], reply: &mut [u8]) -> Answered
+    requires { ⌜ Roomy (now reply) ⌝ }
+    ensures { λ r. ⌜ Answers (told (now (packet .entry)) Granted (EraseRange (sadOf (now (packet .entry))) (eadOf (now (packet .entry)))) (withHeld 0 state)) r (now (reply .entry)) (now (reply .exit)) ⌝ }
 {
     let sad = packet_fields::four_at(packet, 4);
     let ead = packet_fields::four_at(packet, 8);
-    flash::erase(image, profile, sad, ead);
-    tell(
-        reply,
-        settled(state),
-        packet_fields::byte_at(packet, 3),
-        Verdict::Granted,
-    )
+    let act = Act::EraseRange(sad, ead);
+    accept(reply, act, with_held(state, 0), packet)
 }
 
-fn grant_authenticate(
-    profile: Profile,
-    image: &mut [u8],
-    state: State,
-    packet: &[u8],
-    reply: &mut [u8],
-) -> Answered
-    requires { ⌜ 1030 ≤ length (now reply) ⌝ }
-    ensures { λ r. ⌜ Left (grantOf profile (now (image .entry)) state (now (packet .entry)) Authenticate) r (now (image .exit)) (now (reply .entry)) (now (reply .exit)) ⌝ }
+fn grant_authenticate(profile: Profile, state: State, packet: &[u8], reply: &mut [u8]) -> Answered
+    requires { ⌜ Roomy (now reply) ⌝ }
+    ensures { λ r. ⌜ Answers (entered profile state (now (packet .entry))) r (now (reply .entry)) (now (reply .exit)) ⌝ }
 {
     let id = state.id;
-    let request = packet_fields::byte_at(packet, 3);
     if id_code::is_total_erase(id, packet_fields::info(packet)) {
-        flash::erase_all(image);
-        return tell(reply, state::fresh(profile), request, Verdict::Granted);
+        return accept(reply, Act::EraseAll, state::fresh(profile), packet);
     }
-    tell(
-        reply,
-        in_stage(state, Stage::Command),
-        request,
-        Verdict::Granted,
-    )
+    accept(reply, Act::Nothing, in_stage(state, Stage::Command), packet)
 }
 
 fn grant_baud(profile: Profile, state: State, packet: &[u8], reply: &mut [u8]) -> Answered
-    requires { ⌜ 1030 ≤ length (now reply) ⌝ }
-    ensures { λ r. ⌜ Sent (statusReply (codeAt (now (packet .entry))) Granted) (tuned (settingOf (profile .sci) (brtOf (now (packet .entry)))) state) r (now (reply .entry)) (now (reply .exit)) ⌝ }
+    requires { ⌜ Roomy (now reply) ⌝ }
+    ensures { λ r. ⌜ Answers (told (now (packet .entry)) Granted Nothing (withHeld 0 (withLine (settingOf (profile .sci) (brtOf (now (packet .entry)))) state))) r (now (reply .entry)) (now (reply .exit)) ⌝ }
 {
     let line = baud::setting(profile.sci, packet_fields::four_at(packet, 4));
-    tell(
-        reply,
-        with_line(state, line),
-        packet_fields::byte_at(packet, 3),
-        Verdict::Granted,
-    )
+    let tuned = with_held(state::with_line(state, line), 0);
+    accept(reply, Act::Nothing, tuned, packet)
 }
 
 fn grant_signature(profile: Profile, state: State, reply: &mut [u8]) -> Answered
-    requires { ⌜ 1030 ≤ length (now reply) ⌝ }
-    ensures { λ r. ⌜ Sent (dataReply 0x3A (signatureMessage profile)) (moved (state .stage) state) r (now (reply .entry)) (now (reply .exit)) ⌝ }
+    requires { ⌜ Roomy (now reply) ⌝ }
+    ensures { λ r. ⌜ Answers (shown 0x3A (signatureMessage profile) state) r (now (reply .entry)) (now (reply .exit)) ⌝ }
 {
     let bytes = packet_messages::signature_message(profile);
-    send(reply, settled(state), 0x3A, &bytes)
+    send(reply, with_held(state, 0), 0x3A, &bytes)
 }
 
 fn grant_area(profile: Profile, state: State, packet: &[u8], reply: &mut [u8]) -> Answered
-    requires { ⌜ (1030 ≤ length (now reply)) × (numberOf (now packet) < 8) ⌝ }
-    ensures { λ r. ⌜ Sent (dataReply 0x3B (areaMessage (getD (profile .areas) (numberOf (now (packet .entry))) noArea))) (moved (state .stage) state) r (now (reply .entry)) (now (reply .exit)) ⌝ }
+    requires { ⌜ Roomy (now reply) × (areaNumberOf (now packet) < 8) ⌝ }
+    ensures { λ r. ⌜ Answers (shown 0x3B (areaMessage (getD (profile .areas) (areaNumberOf (now (packet .entry))) noArea)) state) r (now (reply .entry)) (now (reply .exit)) ⌝ }
 {
     let number = packet_fields::byte_at(packet, 4) as usize;
     let area = profile.areas[number];
     let bytes = packet_messages::area_message(area);
-    send(reply, settled(state), 0x3B, &bytes)
+    send(reply, with_held(state, 0), 0x3B, &bytes)
 }
 
 // A command that was granted.
 fn grant(
     profile: Profile,
-    image: &mut [u8],
+    image: &[u8],
     state: State,
+    cmd: Com,
     packet: &[u8],
     reply: &mut [u8],
 ) -> Answered
-    requires { ⌜ Accepted profile × (firstFault (commandChecks profile state (now packet)) ≡ none) × (1030 ≤ length (now reply)) ⌝ }
-    ensures { λ r. ⌜ Left (grantOf profile (now (image .entry)) state (now (packet .entry)) (comOf (codeAt (now (packet .entry))))) r (now (image .exit)) (now (reply .entry)) (now (reply .exit)) ⌝ }
+    requires { ⌜ GrantedCommand profile state (now packet) cmd × Roomy (now reply) ⌝ }
+    ensures { λ r. ⌜ Answers (grantOf profile (now (image .entry)) state (now (packet .entry)) cmd) r (now (reply .entry)) (now (reply .exit)) ⌝ }
 {
-    let request = packet_fields::byte_at(packet, 3);
-    let cmd = packet_fields::com_of(request);
     match cmd {
-        Com::Inquiry => tell(reply, settled(state), request, Verdict::Granted),
-        Com::Erase => grant_erase(profile, image, state, packet, reply),
+        Com::Inquiry => accept(reply, Act::Nothing, with_held(state, 0), packet),
+        Com::Erase => grant_erase(state, packet, reply),
         Com::Write => {
-            let range = span(packet);
-            tell(
-                reply,
-                in_stage(state, Stage::Writing(range)),
-                request,
-                Verdict::Granted,
-            )
+            let going = Stage::Writing(span(packet));
+            accept(reply, Act::Nothing, in_stage(state, going), packet)
         }
-        Com::Read => {
-            let range = span(packet);
-            read_packet(profile, image, state, range, reply)
-        }
-        Com::Authenticate => grant_authenticate(profile, image, state, packet, reply),
+        Com::Read => read_packet(profile, image, state, span(packet), reply),
+        Com::Authenticate => grant_authenticate(profile, state, packet, reply),
         Com::Baud => grant_baud(profile, state, packet, reply),
         Com::Signature => grant_signature(profile, state, reply),
         Com::Area => grant_area(profile, state, packet, reply),
-        Com::Unknown => tell(reply, settled(state), request, Verdict::Granted),
+        Com::Unknown => accept(reply, Act::Nothing, with_held(state, 0), packet),
     }
 }
 
 // What a complete command is answered.
 pub fn answer_command(
     profile: Profile,
-    image: &mut [u8],
+    image: &[u8],
     state: State,
     packet: &[u8],
     reply: &mut [u8],
 ) -> Answered
-    requires { ⌜ Accepted profile × (1030 ≤ length (now reply)) ⌝ }
-    ensures { λ r. ⌜ Left (answerCommand profile (now (image .entry)) state (now (packet .entry))) r (now (image .exit)) (now (reply .entry)) (now (reply .exit)) ⌝ }
+    requires { ⌜ Accepted profile × Roomy (now reply) ⌝ }
+    ensures { λ r. ⌜ Answers (answerCommand profile (now (image .entry)) state (now (packet .entry))) r (now (reply .entry)) (now (reply .exit)) ⌝ }
 {
+    let request = packet_fields::byte_at(packet, 3);
     let verdict = check_command::check_command(profile, state, packet);
     match verdict {
-        Verdict::Refused(reason) => {
-            let request = packet_fields::byte_at(packet, 3);
-            tell(reply, settled(state), request, Verdict::Refused(reason))
+        Verdict::Refused(reason) => tell(
+            reply,
+            Act::Nothing,
+            with_held(state, 0),
+            request,
+            Verdict::Refused(reason),
+        ),
+        Verdict::Granted => {
+            let cmd = packet_fields::com_of(request);
+            grant(profile, image, state, cmd, packet, reply)
         }
-        Verdict::Granted => grant(profile, image, state, packet, reply),
     }
 }

@@ -1,2 +1,3 @@
+pub mod After
 pub mod Reading
 pub mod Writing

@@ -1,48 +1,42 @@
--- A packet of a write that was granted, put together from its parts, and the end of a write by an error. Assumes nothing.
+-- A packet of a write that was granted, put together from its parts. Assumes nothing.
 use mathlib.Core.List.{List}
-use mathlib.Core.Path.{_≡_, refl, ap, subst, _∙_}
-use Prim.Native.Nat.{ℕ}
-use Rattle.verdict.specs.declared.Reason.{Reason}
+use mathlib.Core.Path.{_≡_, sym, ap, _∙_}
+use Prim.Native.Nat.{ℕ, _≤_}
 use Rattle.verdict.specs.declared.Verdict.{Verdict}
-use Rattle.verdict.specs.declared.Verdict.the-variants.{Granted, Refused}
+use Rattle.verdict.specs.declared.Verdict.the-variants.{Granted}
 use Rattle.verdict.specs.Check.{firstFault, verdictOf}
+use Rattle.verdict.proofs.FirstFault.{granted-clear}
 use Rattle.profile.specs.declared.Profile.{Profile}
 use Rattle.profile.specs.Areas.{areasOf}
-use Rattle.flash.specs.Effects.{stored}
+use Rattle.packet_fields.specs.Fields.{infoCount}
 use Rattle.packet_reply.specs.Reply.{statusReply}
+use Rattle.flash.specs.declared.Act.the-variants.{Store}
 use Rattle.state.specs.declared.Range.{Range}
 use Rattle.state.specs.declared.Stage.{Stage}
-use Rattle.state.specs.declared.Stage.the-variants.{Command, Writing}
+use Rattle.state.specs.declared.Stage.the-variants.{Writing}
 use Rattle.state.specs.declared.State.{State}
-use Rattle.packet_fields.specs.Fields.{infoCount, infoOf}
 use Rattle.check_transfer.specs.Transfer.{writeChecks}
+use Rattle.check_transfer.proofs.WriteGranted.{write-most}
 use Rattle.answer.specs.declared.Answered.{Answered}
-use Rattle.answer.specs.Answer.{moved}
+use Rattle.answer.specs.Answer.{moved, Answers}
+use Rattle.answer.proofs.Sending.{answers-as}
 use Rattle.answer_transfer.specs.Transfers.{after, writeDecided, answerWrite}
-use Rattle.answer.specs.Post.{Left, Sent}
-use Rattle.answer.proofs.Sending.{left-of}
 
-module _ (p : Profile) (image : List ℕ) (st : State) (range : Range) (q : List ℕ) {next : State} {r : Answered} {before behind : List ℕ} where
-  -- the count, the bytes and the stage behind them make the answer
-  pub data-stored : {n : ℕ} {bytes im : List ℕ} {stage : Stage} → n ≡ infoCount q → stage ≡ after Writing range n → next ≡ moved stage st
-      → bytes ≡ infoOf q → im ≡ stored (areasOf p) (range .next) bytes image → Sent (statusReply 0x13 Granted) next r before behind
-      → Left (writeDecided p image st range q Granted) r im before behind
+-- data that was granted is no more than is left
+pub data-fits : (p : Profile) (image : List ℕ) (range : Range) (q : List ℕ) {v : Verdict} → v ≡ verdictOf (firstFault (writeChecks (areasOf p) image range q))
+    → v ≡ Granted → infoCount q ≤ range .left
+data-fits p image range q e g = write-most (areasOf p) image range q (granted-clear _ (sym e ∙ g))
+
+module _ (st : State) (range : Range) (q : List ℕ) {r : Answered} {before behind : List ℕ} where
+  -- the count and the stage behind it make the answer
+  pub data-stored : {n : ℕ} {stage : Stage} {next : State} → n ≡ infoCount q → stage ≡ after Writing range n → next ≡ moved stage st
+      → Answers (record { act = Store (range .next) n; state = next; reply = statusReply 0x13 Granted }) r before behind
+      → Answers (writeDecided st range q Granted) r before behind
   unfolding writeDecided
-  data-stored {im = im} count stage state bytes image-is s =
-      left-of (writeDecided p image st range q Granted) _ next r im before behind s
-      (image-is ∙ ap (λ (l : List ℕ). stored (areasOf p) (range .next) l image) bytes)
-      (state ∙ ap (λ (g : Stage). moved g st) (stage ∙ ap (after Writing range) count))
-      refl
+  data-stored count stage state s = answers-as (rw (state, stage, count)) s
 
-  pub write-broken : (reason : Reason) → next ≡ moved Command st → Sent (statusReply 0x13 (Refused reason)) next r before behind
-      → Left (writeDecided p image st range q (Refused reason)) r image before behind
-  unfolding writeDecided
-  write-broken reason state s = left-of (writeDecided p image st range q (Refused reason)) _ next r image before behind s refl state refl
-
--- the verdict decides
-pub write-answered : (p : Profile) (image : List ℕ) (st : State) (range : Range) (q : List ℕ) {v : Verdict} {r : Answered} {im before behind : List ℕ}
-    → v ≡ verdictOf (firstFault (writeChecks (areasOf p) image range q)) → Left (writeDecided p image st range q v) r im before behind
-    → Left (answerWrite p image st range q) r im before behind
-unfolding answerWrite
-write-answered p image st range q {r = r} {im = im} {before = before} {behind = behind} =
-    subst (λ (v : Verdict). Left (writeDecided p image st range q v) r im before behind)
+  -- the verdict decides
+  pub write-answered : (p : Profile) (image : List ℕ) {v : Verdict} → v ≡ verdictOf (firstFault (writeChecks (areasOf p) image range q))
+      → Answers (writeDecided st range q v) r before behind → Answers (answerWrite p image st range q) r before behind
+  unfolding answerWrite
+  write-answered p image e s = answers-as (ap (writeDecided st range q) e) s

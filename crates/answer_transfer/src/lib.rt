@@ -1,58 +1,42 @@
 // The packets of a write and of a read that is under way.
 ghost use mathlib.Core.Path.{_≡_};
-ghost use Prim.Native.Nat.{_+_, _≤_, min};
-ghost use lib.ListN.{length};
+ghost use Prim.Native.Nat.{_+_, _≤_, _<_, min};
 ghost use Rattle.verdict.specs.declared.Verdict.the-variants.{Granted};
+ghost use Rattle.packet.specs.Frame.{longestData, Roomy};
 ghost use Rattle.packet_fields.specs.Fields.{infoCount};
-ghost use Rattle.state.specs.declared.Stage.the-variants.{Writing, Reading};
-ghost use Rattle.answer_transfer.specs.Transfers.{after, readPacket, writeDecided, answerWrite, answerNext};
-ghost use Rattle.answer.specs.Post.{Left};
+ghost use Rattle.answer.specs.Answer.{Answers};
+ghost use Rattle.answer_transfer.specs.Transfers.{restOf, readPacket, writeDecided, answerWrite, answerNext};
 use answer::Answered;
 use answer::in_stage;
 use answer::send;
 use answer::tell;
+use flash::Act;
+use packet::LONGEST_DATA;
 use profile::Profile;
 use state::Range;
 use state::Stage;
 use state::State;
 use verdict::Verdict;
 
-// A write after n more bytes.
-fn after_writing(range: Range, n: u32) -> Stage
-    requires { ⌜ (n ≤ range .left) × (range .next + range .left ≤ 4294967296) ⌝ }
-    ensures { λ r. ⌜ r ≡ after Writing range n ⌝ }
+// What is left of a range after n bytes, where it goes on.
+fn rest(range: Range, n: u32) -> Range
+    requires { ⌜ (n < range .left) × (range .next + range .left ≤ 4294967296) ⌝ }
+    ensures { λ r. ⌜ r ≡ restOf range n ⌝ }
 {
-    if range.left == n {
-        return Stage::Command;
-    }
-    Stage::Writing(Range {
+    Range {
         next: range.next + n,
         left: range.left - n,
-    })
-}
-
-// A read after n more bytes.
-fn after_reading(range: Range, n: u32) -> Stage
-    requires { ⌜ (n ≤ range .left) × (range .next + range .left ≤ 4294967296) ⌝ }
-    ensures { λ r. ⌜ r ≡ after Reading range n ⌝ }
-{
-    if range.left == n {
-        return Stage::Command;
     }
-    Stage::Reading(Range {
-        next: range.next + n,
-        left: range.left - n,
-    })
 }
 
 // How many bytes the next packet of a read has: 1,024, or all that are left.
 fn packet_size(left: u32) -> u32
-    ensures { λ r. ⌜ (r ≡ min left 1024) × (r ≤ 1024) × (r ≤ left) ⌝ }
+    ensures { λ r. ⌜ (r ≡ min left longestData) × (r ≤ longestData) × (r ≤ left) ⌝ }
 {
-    if left < 1024 {
+    if (left as usize) < LONGEST_DATA {
         return left;
     }
-    1024
+    LONGEST_DATA as u32
 }
 
 // The next packet of a read.
@@ -63,54 +47,61 @@ pub fn read_packet(
     range: Range,
     reply: &mut [u8],
 ) -> Answered
-    requires { ⌜ (range .next + range .left ≤ 4294967296) × (1030 ≤ length (now reply)) ⌝ }
-    ensures { λ r. ⌜ Left (readPacket profile (now (image .entry)) state range) r (now (image .entry)) (now (reply .entry)) (now (reply .exit)) ⌝ }
+    requires { ⌜ (range .next + range .left ≤ 4294967296) × Roomy (now reply) ⌝ }
+    ensures { λ r. ⌜ Answers (readPacket profile (now (image .entry)) state range) r (now (reply .entry)) (now (reply .exit)) ⌝ }
 {
     let n = packet_size(range.left);
     let bytes = flash::fetch(image, profile, range.next, n as usize);
-    let next = in_stage(state, after_reading(range, n));
-    send(reply, next, 0x15, bytes)
+    if range.left == n {
+        return send(reply, in_stage(state, Stage::Command), 0x15, bytes);
+    }
+    let going = Stage::Reading(rest(range, n));
+    send(reply, in_stage(state, going), 0x15, bytes)
 }
 
-// Write data that was granted: it is stored, and the write goes on or is over.
-fn accept_data(
-    profile: Profile,
-    image: &mut [u8],
-    state: State,
-    range: Range,
-    packet: &[u8],
-    reply: &mut [u8],
-) -> Answered
-    requires { ⌜ (infoCount (now packet) ≤ range .left) × (range .next + range .left ≤ 4294967296) × (1030 ≤ length (now reply)) ⌝ }
-    ensures { λ r. ⌜ Left (writeDecided profile (now (image .entry)) state range (now (packet .entry)) Granted) r (now (image .exit)) (now (reply .entry)) (now (reply .exit)) ⌝ }
+// Write data that was granted: it is to be stored, and the write goes on or is over.
+fn accept_data(state: State, range: Range, packet: &[u8], reply: &mut [u8]) -> Answered
+    requires { ⌜ (infoCount (now packet) ≤ range .left) × (range .next + range .left ≤ 4294967296) × Roomy (now reply) ⌝ }
+    ensures { λ r. ⌜ Answers (writeDecided state range (now (packet .entry)) Granted) r (now (reply .entry)) (now (reply .exit)) ⌝ }
 {
-    let count = packet_fields::info_count(packet) as u32;
-    let next = in_stage(state, after_writing(range, count));
-    flash::store(image, profile, range.next, packet_fields::info(packet));
-    tell(reply, next, 0x13, Verdict::Granted)
+    let count = packet_fields::info_count(packet);
+    let n = count as u32;
+    let act = Act::Store(range.next as usize, count);
+    if range.left == n {
+        return tell(
+            reply,
+            act,
+            in_stage(state, Stage::Command),
+            0x13,
+            Verdict::Granted,
+        );
+    }
+    let going = Stage::Writing(rest(range, n));
+    tell(reply, act, in_stage(state, going), 0x13, Verdict::Granted)
 }
 
 // What a complete packet in a write is answered.
 pub fn answer_write(
     profile: Profile,
-    image: &mut [u8],
+    image: &[u8],
     state: State,
     range: Range,
     packet: &[u8],
     reply: &mut [u8],
 ) -> Answered
-    requires { ⌜ (range .next + range .left ≤ 4294967296) × (1030 ≤ length (now reply)) ⌝ }
-    ensures { λ r. ⌜ Left (answerWrite profile (now (image .entry)) state range (now (packet .entry))) r (now (image .exit)) (now (reply .entry)) (now (reply .exit)) ⌝ }
+    requires { ⌜ (range .next + range .left ≤ 4294967296) × Roomy (now reply) ⌝ }
+    ensures { λ r. ⌜ Answers (answerWrite profile (now (image .entry)) state range (now (packet .entry))) r (now (reply .entry)) (now (reply .exit)) ⌝ }
 {
     let verdict = check_transfer::check_write(profile, image, range, packet);
     match verdict {
         Verdict::Refused(reason) => tell(
             reply,
+            Act::Nothing,
             in_stage(state, Stage::Command),
             0x13,
             Verdict::Refused(reason),
         ),
-        Verdict::Granted => accept_data(profile, image, state, range, packet, reply),
+        Verdict::Granted => accept_data(state, range, packet, reply),
     }
 }
 
@@ -123,13 +114,14 @@ pub fn answer_next(
     packet: &[u8],
     reply: &mut [u8],
 ) -> Answered
-    requires { ⌜ (range .next + range .left ≤ 4294967296) × (1030 ≤ length (now reply)) ⌝ }
-    ensures { λ r. ⌜ Left (answerNext profile (now (image .entry)) state range (now (packet .entry))) r (now (image .entry)) (now (reply .entry)) (now (reply .exit)) ⌝ }
+    requires { ⌜ (range .next + range .left ≤ 4294967296) × Roomy (now reply) ⌝ }
+    ensures { λ r. ⌜ Answers (answerNext profile (now (image .entry)) state range (now (packet .entry))) r (now (reply .entry)) (now (reply .exit)) ⌝ }
 {
     let verdict = check_transfer::check_next(packet);
     match verdict {
         Verdict::Refused(reason) => tell(
             reply,
+            Act::Nothing,
             in_stage(state, Stage::Command),
             0x15,
             Verdict::Refused(reason),

@@ -1,14 +1,15 @@
 // Waking up: one byte in setting.
 ghost use mathlib.Core.Path.{_≡_};
 ghost use mathlib.Core.List.{[], _∷_};
-ghost use Prim.Native.Nat.{_≤_};
-ghost use lib.ListN.{length};
+ghost use Rattle.packet.specs.Frame.{Roomy};
 ghost use Rattle.state.specs.declared.Pulse.the-variants.{Acknowledged};
 ghost use Rattle.state.specs.declared.Stage.the-variants.{Setting};
-ghost use Rattle.answer.specs.Answer.{moved};
-ghost use Rattle.answer.specs.Post.{Left, Sent};
-ghost use Rattle.answer_waking.specs.Wake.{awake, wakeOf};
+ghost use Rattle.flash.specs.declared.Act.the-variants.{Nothing};
+ghost use Rattle.answer.specs.Answer.{moved, Answers};
+ghost use Rattle.answer_waking.specs.Wake.{awake, woken, wakeOf};
 use answer::Answered;
+use answer::in_stage;
+use flash::Act;
 use profile::Profile;
 use state::Pulse;
 use state::Stage;
@@ -16,11 +17,15 @@ use state::State;
 
 // One byte of answer.
 fn say(reply: &mut [u8], state: State, byte: u8) -> Answered
-    requires { ⌜ 1030 ≤ length (now reply) ⌝ }
-    ensures { λ r. ⌜ Sent (byte ∷ []) state r (now (reply .entry)) (now (reply .exit)) ⌝ }
+    requires { ⌜ Roomy (now reply) ⌝ }
+    ensures { λ r. ⌜ Answers (woken state (byte ∷ [])) r (now (reply .entry)) (now (reply .exit)) ⌝ }
 {
     reply[0] = byte;
-    Answered { state, count: 1 }
+    Answered {
+        act: Act::Nothing,
+        state,
+        count: 1,
+    }
 }
 
 // The ID is latched, and with it the stage.
@@ -28,37 +33,29 @@ fn awaken(profile: Profile, image: &[u8], state: State) -> State
     ensures { λ r. ⌜ r ≡ awake profile (now (image .entry)) state ⌝ }
 {
     let id = id_code::stored_id(image, profile);
-    let line = state.line;
-    if id_code::is_none(id) {
-        return State {
-            stage: Stage::Command,
-            id,
-            line,
-            held: 0,
-        };
-    }
-    State {
-        stage: Stage::Authentication,
-        id,
-        line,
-        held: 0,
-    }
+    let stage = if id_code::is_none(id) {
+        Stage::Command
+    } else {
+        Stage::Authentication
+    };
+    state::with_id(in_stage(state, stage), id)
 }
 
 // No answer: setting goes on at a pulse.
 fn go(state: State, pulse: Pulse) -> Answered
-    ensures { λ r. ⌜ (r .state ≡ moved (Setting pulse) state) × (r .count ≡ 0) ⌝ }
+    ensures { λ r. ⌜ r ≡ record { act = Nothing; state = moved (Setting pulse) state; count = 0 } ⌝ }
 {
     Answered {
-        state: answer::in_stage(state, Stage::Setting(pulse)),
+        act: Act::Nothing,
+        state: in_stage(state, Stage::Setting(pulse)),
         count: 0,
     }
 }
 
 // After the acknowledgement.
 fn wake_third(profile: Profile, image: &[u8], state: State, byte: u8, reply: &mut [u8]) -> Answered
-    requires { ⌜ 1030 ≤ length (now reply) ⌝ }
-    ensures { λ r. ⌜ Left (wakeOf profile (now (image .entry)) state Acknowledged byte) r (now (image .entry)) (now (reply .entry)) (now (reply .exit)) ⌝ }
+    requires { ⌜ Roomy (now reply) ⌝ }
+    ensures { λ r. ⌜ Answers (wakeOf profile (now (image .entry)) state Acknowledged byte) r (now (reply .entry)) (now (reply .exit)) ⌝ }
 {
     if byte == 0x55 {
         return say(reply, awaken(profile, image, state), 0xC3);
@@ -78,8 +75,8 @@ pub fn wake(
     byte: u8,
     reply: &mut [u8],
 ) -> Answered
-    requires { ⌜ 1030 ≤ length (now reply) ⌝ }
-    ensures { λ r. ⌜ Left (wakeOf profile (now (image .entry)) state pulse byte) r (now (image .entry)) (now (reply .entry)) (now (reply .exit)) ⌝ }
+    requires { ⌜ Roomy (now reply) ⌝ }
+    ensures { λ r. ⌜ Answers (wakeOf profile (now (image .entry)) state pulse byte) r (now (reply .entry)) (now (reply .exit)) ⌝ }
 {
     match pulse {
         Pulse::Zero => {
@@ -92,7 +89,7 @@ pub fn wake(
             if byte == 0x00 {
                 return say(
                     reply,
-                    answer::in_stage(state, Stage::Setting(Pulse::Acknowledged)),
+                    in_stage(state, Stage::Setting(Pulse::Acknowledged)),
                     0x00,
                 );
             }

@@ -1,6 +1,6 @@
 -- The line setting of a baud rate BRT under the clock SCI. All divisions round down; a division by 0, which no acceptable profile and
 -- no granted rate brings, gives 0.
-use mathlib.Core.Bool.{Bool, true, false, cond}
+use mathlib.Core.Bool.{Bool, cond}
 use mathlib.Core.List.{List, [], _∷_}
 use mathlib.Core.Path.{_≡_}
 use Prim.Native.Nat.{ℕ, _+_, _-_, _*_, _/_, _≤_, min, max}

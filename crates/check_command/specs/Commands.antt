@@ -19,7 +19,7 @@ use Rattle.state.specs.declared.Stage.{Stage}
 use Rattle.state.specs.declared.Stage.the-variants.{Setting, Authentication, Command, Writing, Reading}
 use Rattle.state.specs.declared.State.{State}
 use Rattle.state.specs.State.{windowOf}
-use Rattle.packet_fields.specs.Fields.{comOf, codeAt, infoCount, infoOf, sadOf, eadOf, brtOf, numberOf, infoLength}
+use Rattle.packet_fields.specs.Fields.{comOf, codeAt, infoCount, infoOf, sadOf, eadOf, brtOf, areaNumberOf, infoLength}
 
 abbrev pub isUnknown : Com → Bool
 isUnknown Inquiry = false
@@ -32,36 +32,25 @@ isUnknown Signature = false
 isUnknown Area = false
 isUnknown Unknown = true
 
-abbrev pub isAuthenticate : Com → Bool
-isAuthenticate Inquiry = false
-isAuthenticate Erase = false
-isAuthenticate Write = false
-isAuthenticate Read = false
-isAuthenticate Authenticate = true
-isAuthenticate Baud = false
-isAuthenticate Signature = false
-isAuthenticate Area = false
-isAuthenticate Unknown = false
-
--- authentication stage permits only authenticate, command stage all others; no command is received elsewhere
-abbrev pub stageWrong : Stage → Com → Bool
-stageWrong (Setting u) cmd = true
-stageWrong Authentication cmd = not (isAuthenticate cmd)
-stageWrong Command cmd = isAuthenticate cmd
-stageWrong (Writing r) cmd = true
-stageWrong (Reading r) cmd = true
+-- authentication stage permits only 30h, command stage all but 30h; no command is received elsewhere
+abbrev pub stageWrong : Stage → ℕ → Bool
+stageWrong (Setting u) n = true
+stageWrong Authentication n = not (eqb n 0x30)
+stageWrong Command n = eqb n 0x30
+stageWrong (Writing r) n = true
+stageWrong (Reading r) n = true
 
 -- unknown COM, then length, then stage
-unfoldable pub formChecks : Stage → Com → ℕ → List (Check Reason)
-formChecks stage cmd count =
+unfoldable pub formChecks : Stage → ℕ → Com → ℕ → List (Check Reason)
+formChecks stage n cmd count =
     (isUnknown cmd gives UnknownCommand)
     ∷ (not (eqb count (infoLength cmd)) gives WrongLength)
-    ∷ (stageWrong stage cmd gives WrongStage)
+    ∷ (stageWrong stage n gives WrongStage)
     ∷ []
 
 -- the number of an area that is not there
-unfoldable pub areaChecks : ℕ → List ℕ → List (Check Reason)
-areaChecks noa q = (leb noa (numberOf q) gives NoSuchArea) ∷ []
+unfoldable pub areaNumberChecks : ℕ → List ℕ → List (Check Reason)
+areaNumberChecks noa q = (leb noa (areaNumberOf q) gives NoSuchArea) ∷ []
 
 -- the command's own
 unfoldable pub ownChecks : Profile → State → Com → List ℕ → List (Check Reason)
@@ -72,12 +61,12 @@ ownChecks p st Read q = rangeChecks (areasOf p) (windowOf p st) ToRead (sadOf q)
 ownChecks p st Authenticate q = idChecks (st .id) (infoOf q)
 ownChecks p st Baud q = rateChecks (p .sci) (p .rmb) (brtOf q)
 ownChecks p st Signature q = []
-ownChecks p st Area q = areaChecks (p .noa) q
+ownChecks p st Area q = areaNumberChecks (p .noa) q
 ownChecks p st Unknown q = []
 
 -- the form, then the command's own
 unfoldable pub knownChecks : Profile → State → List ℕ → List (Check Reason)
-knownChecks p st q = formChecks (st .stage) (comOf (codeAt q)) (infoCount q) ++ ownChecks p st (comOf (codeAt q)) q
+knownChecks p st q = formChecks (st .stage) (codeAt q) (comOf (codeAt q)) (infoCount q) ++ ownChecks p st (comOf (codeAt q)) q
 
 -- ETX and SUM before all
 unfoldable pub commandChecks : Profile → State → List ℕ → List (Check Reason)

@@ -4,7 +4,7 @@ ghost use Rattle.profile.specs.Areas.{areasOf};
 ghost use Rattle.profile_ranges.specs.Ranges.{rangeChecks};
 ghost use Rattle.verdict.specs.Check.{firstFault, verdictOf};
 ghost use Rattle.packet_fields.specs.Fields.{sadOf, eadOf};
-ghost use Rattle.check_command.specs.Commands.{isUnknown, isAuthenticate, stageWrong, formChecks, areaChecks, ownChecks, knownChecks, commandChecks};
+ghost use Rattle.check_command.specs.Commands.{isUnknown, stageWrong, formChecks, areaNumberChecks, ownChecks, knownChecks, commandChecks};
 use packet_fields::Com;
 use packet_fields::byte_at;
 use packet_fields::com_of;
@@ -13,27 +13,12 @@ use packet_fields::info;
 use packet_fields::info_count;
 use packet_fields::info_length;
 use profile::Profile;
+use profile::Window;
 use profile_ranges::Purpose;
 use state::Stage;
 use state::State;
 use verdict::Reason;
 use verdict::Verdict;
-
-fn is_authenticate(cmd: Com) -> bool
-    ensures { λ r. ⌜ r ≡ isAuthenticate cmd ⌝ }
-{
-    match cmd {
-        Com::Inquiry => false,
-        Com::Erase => false,
-        Com::Write => false,
-        Com::Read => false,
-        Com::Authenticate => true,
-        Com::Baud => false,
-        Com::Signature => false,
-        Com::Area => false,
-        Com::Unknown => false,
-    }
-}
 
 fn is_unknown(cmd: Com) -> bool
     ensures { λ r. ⌜ r ≡ isUnknown cmd ⌝ }
@@ -51,21 +36,21 @@ fn is_unknown(cmd: Com) -> bool
     }
 }
 
-// Whether the stage does not permit the command.
-fn is_stage_wrong(stage: Stage, cmd: Com) -> bool
-    ensures { λ r. ⌜ r ≡ stageWrong stage cmd ⌝ }
+// Whether the stage does not permit the command: authenticate is 30h.
+fn is_stage_wrong(stage: Stage, code: u8) -> bool
+    ensures { λ r. ⌜ r ≡ stageWrong stage code ⌝ }
 {
     match stage {
         Stage::Setting(_) => true,
-        Stage::Authentication => !is_authenticate(cmd),
-        Stage::Command => is_authenticate(cmd),
+        Stage::Authentication => code != 0x30,
+        Stage::Command => code == 0x30,
         Stage::Writing(_) => true,
         Stage::Reading(_) => true,
     }
 }
 
-fn check_form(stage: Stage, cmd: Com, count: usize) -> Verdict
-    ensures { λ r. ⌜ r ≡ verdictOf (firstFault (formChecks stage cmd count)) ⌝ }
+fn check_form(stage: Stage, code: u8, cmd: Com, count: usize) -> Verdict
+    ensures { λ r. ⌜ r ≡ verdictOf (firstFault (formChecks stage code cmd count)) ⌝ }
 {
     if is_unknown(cmd) {
         return Verdict::Refused(Reason::UnknownCommand);
@@ -73,14 +58,14 @@ fn check_form(stage: Stage, cmd: Com, count: usize) -> Verdict
     if count != info_length(cmd) {
         return Verdict::Refused(Reason::WrongLength);
     }
-    if is_stage_wrong(stage, cmd) {
+    if is_stage_wrong(stage, code) {
         return Verdict::Refused(Reason::WrongStage);
     }
     Verdict::Granted
 }
 
 fn check_area_number(noa: u8, packet: &[u8]) -> Verdict
-    ensures { λ r. ⌜ r ≡ verdictOf (firstFault (areaChecks noa (now (packet .entry)))) ⌝ }
+    ensures { λ r. ⌜ r ≡ verdictOf (firstFault (areaNumberChecks noa (now (packet .entry)))) ⌝ }
 {
     if noa <= byte_at(packet, 4) {
         return Verdict::Refused(Reason::NoSuchArea);
@@ -89,23 +74,23 @@ fn check_area_number(noa: u8, packet: &[u8]) -> Verdict
 }
 
 // The range from SAD to EAD of a command.
-fn check_span(profile: Profile, purpose: Purpose, packet: &[u8]) -> Verdict
-    ensures { λ r. ⌜ r ≡ verdictOf (firstFault (rangeChecks (areasOf profile) (profile .window) purpose (sadOf (now (packet .entry))) (eadOf (now (packet .entry))))) ⌝ }
+fn check_span(profile: Profile, window: Window, purpose: Purpose, packet: &[u8]) -> Verdict
+    ensures { λ r. ⌜ r ≡ verdictOf (firstFault (rangeChecks (areasOf profile) window purpose (sadOf (now (packet .entry))) (eadOf (now (packet .entry))))) ⌝ }
 {
     let sad = four_at(packet, 4);
     let ead = four_at(packet, 8);
-    let window = profile.window;
     profile_ranges::check_range(profile, window, purpose, sad, ead)
 }
 
 fn check_own(profile: Profile, state: State, cmd: Com, packet: &[u8]) -> Verdict
     ensures { λ r. ⌜ r ≡ verdictOf (firstFault (ownChecks profile state cmd (now (packet .entry)))) ⌝ }
 {
+    let window = state::window(profile, state);
     match cmd {
         Com::Inquiry => Verdict::Granted,
-        Com::Erase => check_span(profile, Purpose::Erase, packet),
-        Com::Write => check_span(profile, Purpose::Write, packet),
-        Com::Read => check_span(profile, Purpose::Read, packet),
+        Com::Erase => check_span(profile, window, Purpose::Erase, packet),
+        Com::Write => check_span(profile, window, Purpose::Write, packet),
+        Com::Read => check_span(profile, window, Purpose::Read, packet),
         Com::Authenticate => {
             let id = state.id;
             id_code::check_id(id, info(packet))
@@ -120,9 +105,10 @@ fn check_own(profile: Profile, state: State, cmd: Com, packet: &[u8]) -> Verdict
 fn check_known(profile: Profile, state: State, packet: &[u8]) -> Verdict
     ensures { λ r. ⌜ r ≡ verdictOf (firstFault (knownChecks profile state (now (packet .entry)))) ⌝ }
 {
-    let cmd = com_of(byte_at(packet, 3));
+    let code = byte_at(packet, 3);
+    let cmd = com_of(code);
     let stage = state.stage;
-    let form = check_form(stage, cmd, info_count(packet));
+    let form = check_form(stage, code, cmd, info_count(packet));
     match form {
         Verdict::Refused(reason) => Verdict::Refused(reason),
         Verdict::Granted => check_own(profile, state, cmd, packet),

@@ -1,2 +1,3 @@
 pub mod TransferLaws
 pub mod WriteGranted
+pub mod Boundary

@@ -3,14 +3,14 @@ use mathlib.Core.Bool.{true, false, _&&_}
 use mathlib.Core.List.{List}
 use mathlib.Core.Option.{none}
 use mathlib.Core.Path.{_≡_, refl}
-use Prim.Native.Nat.{ℕ, _%_, _≤_}
+use Prim.Native.Nat.{ℕ, _+_, _%_, _≤_}
 use lib.ListN.{getD}
 use lib.Dec.{eqb}
-use borrow.Author.Tests.{eqb-true, eqb-false, ltb-false, not-false}
-use Rattle.verdict.specs.Check.{firstFault, NoneApplies}
+use borrow.Author.Tests.{eqb-true, not-false}
+use Rattle.verdict.specs.declared.Reason.{Reason}
+use Rattle.verdict.specs.Check.{Check, firstFault, NoneApplies}
 use Rattle.verdict.proofs.FirstFault.{clear, clear-left, clear-right}
 use Rattle.profile.specs.declared.Area.{Area}
-use Rattle.profile.specs.Places.{placeOf}
 use Rattle.packet.specs.Packet.{endingChecks}
 use Rattle.packet.proofs.Laws.{impossible, both}
 use Rattle.flash_blank.specs.declared.Search.{Search}
@@ -19,7 +19,8 @@ use Rattle.flash.specs.Effects.{fetched}
 use Rattle.flash_blank.specs.Blank.{searched}
 use Rattle.state.specs.declared.Range.{Range}
 use Rattle.packet_fields.specs.Fields.{codeAt, infoCount}
-use Rattle.check_transfer.specs.Transfer.{unitAt, isDirty, dataChecks, blankChecks, targetChecks, writeChecks, asksNext, requestChecks, nextChecks}
+use Rattle.check_transfer.proofs.TransferLaws.{amount-code, amount-any, amount-most}
+use Rattle.check_transfer.specs.Transfer.{isDirty, amountChecks, unitBefore, unitsChecks, targetChecks, writeChecks, asksNext, requestChecks, nextChecks}
 
 is-clean : (s : Search) → isDirty s ≡ false → s ≡ Clean
 is-clean Clean e = refl
@@ -27,9 +28,12 @@ is-clean (Dirty n) e = impossible (cc)
 
 -- a packet that is granted in a write
 module _ (areas : List Area) (image : List ℕ) (r : Range) (q : List ℕ) (granted : firstFault (writeChecks areas image r q) ≡ none) where
-  -- WAU of the area in which the packet's bytes go
+  -- WAU of the area in which the packet's last byte goes, and the checks with it
   abbrev unit : ℕ
-  unit = unitAt (placeOf areas (r .next))
+  unit = unitBefore areas (r .next + infoCount q)
+
+  abbrev units : List (Check Reason)
+  units = unitsChecks areas image (r .next) (infoCount q) unit
 
   pub write-ends : firstFault (endingChecks q) ≡ none
   unfolding writeChecks
@@ -39,35 +43,30 @@ module _ (areas : List Area) (image : List ℕ) (r : Range) (q : List ℕ) (gran
   unfolding writeChecks
   target-clear = clear-right (endingChecks q) (targetChecks areas image r q) granted
 
-  data-clear : NoneApplies (dataChecks (r .left) unit q)
+  amount : firstFault (amountChecks (r .left) q) ≡ none
   unfolding targetChecks
-  data-clear = clear (dataChecks (r .left) unit q) (clear-left (dataChecks (r .left) unit q) (blankChecks areas image (r .next) unit (infoCount q)) target-clear)
+  amount = clear-left (amountChecks (r .left) q) units target-clear
 
-  blank-clear : NoneApplies (blankChecks areas image (r .next) unit (infoCount q))
+  units-clear : NoneApplies units
   unfolding targetChecks
-  blank-clear =
-      clear (blankChecks areas image (r .next) unit (infoCount q))
-      (clear-right (dataChecks (r .left) unit q) (blankChecks areas image (r .next) unit (infoCount q)) target-clear)
+  units-clear = clear units (clear-right (amountChecks (r .left) q) units target-clear)
 
   pub write-code : codeAt q ≡ 0x13
-  unfolding dataChecks NoneApplies
-  write-code = eqb-true (codeAt q) 0x13 (not-false (eqb (codeAt q) 0x13) (data-clear .0))
+  write-code = amount-code (r .left) q amount
 
   pub write-any : infoCount q ≡ 0 → ⊥
-  unfolding dataChecks NoneApplies
-  write-any = eqb-false (infoCount q) 0 (data-clear .1 .0)
+  write-any = amount-any (r .left) q amount
 
   pub write-most : infoCount q ≤ r .left
-  unfolding dataChecks NoneApplies
-  write-most = ltb-false (r .left) (infoCount q) (data-clear .1 .1 .0)
+  write-most = amount-most (r .left) q amount
 
-  pub write-units : infoCount q % unitAt (placeOf areas (r .next)) ≡ 0
-  unfolding dataChecks NoneApplies
-  write-units = eqb-true (infoCount q % unit) 0 (not-false (eqb (infoCount q % unit) 0) (data-clear .1 .1 .1 .0))
+  pub write-units : (r .next + infoCount q) % unitBefore areas (r .next + infoCount q) ≡ 0
+  unfolding unitsChecks NoneApplies
+  write-units = eqb-true ((r .next + infoCount q) % unit) 0 (not-false (eqb ((r .next + infoCount q) % unit) 0) (units-clear .0))
 
-  pub write-blank : searched (unitAt (placeOf areas (r .next))) (fetched areas (r .next) (infoCount q) image) ≡ Clean
-  unfolding blankChecks NoneApplies
-  write-blank = is-clean (searched unit (fetched areas (r .next) (infoCount q) image)) (blank-clear .0)
+  pub write-blank : searched (unitBefore areas (r .next + infoCount q)) (fetched areas (r .next) (infoCount q) image) ≡ Clean
+  unfolding unitsChecks NoneApplies
+  write-blank = is-clean (searched unit (fetched areas (r .next) (infoCount q) image)) (units-clear .1 .0)
 
 -- a packet that is granted in a read
 module _ (q : List ℕ) (granted : firstFault (nextChecks q) ≡ none) where

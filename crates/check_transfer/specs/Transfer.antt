@@ -1,16 +1,14 @@
 -- The packets of a write and of a read that is under way: their checks in order.
 use mathlib.Core.Bool.{Bool, true, false, _&&_, not}
 use mathlib.Core.List.{List, [], _∷_, _++_}
-use Prim.Native.Nat.{ℕ, _%_}
+use Prim.Native.Nat.{ℕ, _+_, _-_, _%_}
 use lib.ListN.{getD}
 use lib.Dec.{ltb, eqb}
 use Rattle.verdict.specs.declared.Reason.{Reason}
 use Rattle.verdict.specs.declared.Reason.the-variants.{NotWriteData, NoData, TooMuchData, BrokenUnit, DirtyFlash, NotNextRequest}
 use Rattle.verdict.specs.Check.{Check, _gives_}
 use Rattle.profile.specs.declared.Area.{Area}
-use Rattle.profile.specs.declared.Place.{Place}
-use Rattle.profile.specs.declared.Place.the-variants.{In, Nowhere}
-use Rattle.profile.specs.Places.{placeOf}
+use Rattle.profile.specs.Places.{placeOf, unitAt}
 use Rattle.packet.specs.Packet.{endingChecks}
 use Rattle.flash_blank.specs.declared.Search.{Search}
 use Rattle.flash_blank.specs.declared.Search.the-variants.{Clean, Dirty}
@@ -19,33 +17,34 @@ use Rattle.flash_blank.specs.Blank.{searched}
 use Rattle.state.specs.declared.Range.{Range}
 use Rattle.packet_fields.specs.Fields.{codeAt, infoCount}
 
--- WAU of the area that holds the next address
-abbrev pub unitAt : Place → ℕ
-unitAt (In spot) = spot .area .wau
-unitAt Nowhere = 0
-
 abbrev pub isDirty : Search → Bool
 isDirty Clean = false
 isDirty (Dirty n) = true
 
--- RES, the amount and its unit
-unfoldable pub dataChecks : ℕ → ℕ → List ℕ → List (Check Reason)
-dataChecks left unit q =
+-- RES and the amount
+unfoldable pub amountChecks : ℕ → List ℕ → List (Check Reason)
+amountChecks left q =
     (not (eqb (codeAt q) 0x13) gives NotWriteData)
     ∷ (eqb (infoCount q) 0 gives NoData)
     ∷ (ltb left (infoCount q) gives TooMuchData)
-    ∷ (not (eqb (infoCount q % unit) 0) gives BrokenUnit)
     ∷ []
 
--- the packet's target holds a unit that is not blank
-unfoldable pub blankChecks : List Area → List ℕ → ℕ → ℕ → ℕ → List (Check Reason)
-blankChecks areas image next unit count = (isDirty (searched unit (fetched areas next count image)) gives DirtyFlash) ∷ []
+-- WAU of the area that holds the last byte before an address
+abbrev pub unitBefore : List Area → ℕ → ℕ
+unitBefore areas behind = unitAt (placeOf areas (behind - 1))
+
+-- the packet's target ends on a boundary of that unit, and no unit of it holds another byte than FFh
+unfoldable pub unitsChecks : List Area → List ℕ → ℕ → ℕ → ℕ → List (Check Reason)
+unitsChecks areas image next count unit =
+    (not (eqb ((next + count) % unit) 0) gives BrokenUnit)
+    ∷ (isDirty (searched unit (fetched areas next count image)) gives DirtyFlash)
+    ∷ []
 
 -- the amount, then the target
 unfoldable pub targetChecks : List Area → List ℕ → Range → List ℕ → List (Check Reason)
 targetChecks areas image r q =
-    dataChecks (r .left) (unitAt (placeOf areas (r .next))) q
-    ++ blankChecks areas image (r .next) (unitAt (placeOf areas (r .next))) (infoCount q)
+    amountChecks (r .left) q
+    ++ unitsChecks areas image (r .next) (infoCount q) (unitBefore areas (r .next + infoCount q))
 
 -- ETX and SUM before all
 unfoldable pub writeChecks : List Area → List ℕ → Range → List ℕ → List (Check Reason)

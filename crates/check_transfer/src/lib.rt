@@ -1,34 +1,20 @@
 // The checks of a packet in a write and in a read, in the paper's order.
 ghost use mathlib.Core.Path.{_≡_};
+ghost use Prim.Native.Nat.{_+_, _≤_};
 ghost use Rattle.verdict.specs.Check.{firstFault, verdictOf};
 ghost use Rattle.profile.specs.Areas.{areasOf};
-ghost use Rattle.profile.specs.Places.{placeOf};
-ghost use Rattle.check_transfer.specs.Transfer.{unitAt, dataChecks, blankChecks, targetChecks, writeChecks, asksNext, requestChecks, nextChecks};
+ghost use Rattle.check_transfer.specs.Transfer.{amountChecks, unitBefore, unitsChecks, targetChecks, writeChecks, asksNext, requestChecks, nextChecks};
 use flash_blank::Search;
 use packet_fields::byte_at;
 use packet_fields::info_count;
-use profile::Place;
 use profile::Profile;
 use state::Range;
 use verdict::Reason;
 use verdict::Verdict;
 
-// WAU of the area that holds an address; 0 where none does.
-pub fn unit_at(profile: Profile, address: u32) -> u32
-    ensures { λ r. ⌜ r ≡ unitAt (placeOf (areasOf profile) address) ⌝ }
-{
-    let place = profile::locate(profile, address);
-    match place {
-        Place::Nowhere => 0,
-        Place::In(spot) => {
-            let area = spot.area;
-            area.wau
-        }
-    }
-}
-
-fn check_data(left: u32, unit: u32, packet: &[u8]) -> Verdict
-    ensures { λ r. ⌜ r ≡ verdictOf (firstFault (dataChecks left unit (now (packet .entry)))) ⌝ }
+// RES and the amount.
+fn check_amount(left: u32, packet: &[u8]) -> Verdict
+    ensures { λ r. ⌜ r ≡ verdictOf (firstFault (amountChecks left (now (packet .entry)))) ⌝ }
 {
     let count = info_count(packet);
     if byte_at(packet, 3) != 0x13 {
@@ -40,20 +26,23 @@ fn check_data(left: u32, unit: u32, packet: &[u8]) -> Verdict
     if (left as usize) < count {
         return Verdict::Refused(Reason::TooMuchData);
     }
-    if unit == 0 {
-        return Verdict::Refused(Reason::BrokenUnit);
-    }
-    if count % (unit as usize) != 0 {
-        return Verdict::Refused(Reason::BrokenUnit);
-    }
     Verdict::Granted
 }
 
-fn check_blank(profile: Profile, image: &[u8], next: u32, unit: u32, count: usize) -> Verdict
-    ensures { λ r. ⌜ r ≡ verdictOf (firstFault (blankChecks (areasOf profile) (now (image .entry)) next unit count)) ⌝ }
+// The units of a target that ends before `next + count`: whole ones, and all blank.
+fn check_units(profile: Profile, image: &[u8], next: u32, count: usize) -> Verdict
+    requires { ⌜ (1 ≤ count) × (count ≤ 4294967295) ⌝ }
+    ensures { λ r. ⌜ r ≡ verdictOf (firstFault (unitsChecks (areasOf profile) (now (image .entry)) next count (unitBefore (areasOf profile) (next + count)))) ⌝ }
 {
-    let target = flash::fetch(image, profile, next, count);
-    let found = flash_blank::first_dirty(target, unit as usize);
+    let behind = next as usize + count;
+    let unit = profile::unit_at(profile, behind - 1) as usize;
+    if unit == 0 {
+        return Verdict::Refused(Reason::BrokenUnit);
+    }
+    if behind % unit != 0 {
+        return Verdict::Refused(Reason::BrokenUnit);
+    }
+    let found = flash_blank::first_dirty(flash::fetch(image, profile, next, count), unit);
     match found {
         Search::Clean => Verdict::Granted,
         Search::Dirty(_) => Verdict::Refused(Reason::DirtyFlash),
@@ -63,11 +52,10 @@ fn check_blank(profile: Profile, image: &[u8], next: u32, unit: u32, count: usiz
 fn check_target(profile: Profile, image: &[u8], range: Range, packet: &[u8]) -> Verdict
     ensures { λ r. ⌜ r ≡ verdictOf (firstFault (targetChecks (areasOf profile) (now (image .entry)) range (now (packet .entry)))) ⌝ }
 {
-    let unit = unit_at(profile, range.next);
-    let amount = check_data(range.left, unit, packet);
+    let amount = check_amount(range.left, packet);
     match amount {
         Verdict::Refused(reason) => Verdict::Refused(reason),
-        Verdict::Granted => check_blank(profile, image, range.next, unit, info_count(packet)),
+        Verdict::Granted => check_units(profile, image, range.next, info_count(packet)),
     }
 }
 

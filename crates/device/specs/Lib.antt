@@ -1,2 +1,2 @@
-pub mod Listen
+pub mod Steps
 pub mod Post

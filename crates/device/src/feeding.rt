@@ -1,49 +1,43 @@
 // A delivery: bytes that only add to a packet at once, the others one by one.
 ghost use mathlib.Core.Path.{_≡_};
-ghost use Prim.Native.Nat.{_≤_};
-ghost use lib.ListN.{length};
 ghost use Rattle.profile_rules.specs.Rules.{Accepted as AcceptedProfile};
-ghost use Rattle.verdict.specs.declared.Reason.the-variants.{LengthRefused};
-ghost use Rattle.verdict.specs.declared.Verdict.the-variants.{Refused};
-ghost use Rattle.packet_reply.specs.Reply.{statusReply};
-ghost use Rattle.answer.specs.Answer.{moved};
-ghost use Rattle.answer.specs.Post.{Left, Sent};
-ghost use Rattle.device_steps.specs.Step.{machineOf, earlyCode, endOf, stepOf};
-ghost use Rattle.device.specs.Listen.{kindOf, answerOf, Listening, RangeIn};
-ghost use Rattle.device_steps.specs.Feed.{feedOf};
-ghost use Rattle.device.specs.Post.{Ran, Stood};
+ghost use Rattle.packet.specs.Frame.{Roomy};
+ghost use Rattle.flash.specs.declared.Act.the-variants.{Nothing};
+ghost use Rattle.state.specs.declared.Awaited.the-variants.{Packet};
+ghost use Rattle.state.specs.Awaits.{awaitsOf};
+ghost use Rattle.state.specs.State.{withHeld};
+ghost use Rattle.answer.specs.Answer.{Answers};
+ghost use Rattle.device_calls.specs.Calls.{buffers};
 ghost use Rattle.device_calls.specs.Ready.{Ready};
+ghost use Rattle.device_steps.specs.Step.{machineOf, earlyOf, refusedEarly, answerOf, stepOf};
+ghost use Rattle.device_steps.specs.Feed.{feedOf};
+ghost use Rattle.device.specs.Steps.{RangeIn, Completes, Stood, Holding, Added};
+ghost use Rattle.device.specs.Post.{Ran};
 use crate::Fed;
 use crate::Refusal;
-use crate::Stepped;
 use answer::Answered;
+use answer::in_stage;
+use answer::tell;
+use answer_command::answer_command;
+use answer_transfer::answer_next;
+use answer_transfer::answer_write;
 use answer_waking::wake;
+use flash::Act;
 use packet::Kind;
 use packet::Progress;
 use packet_gather::gather;
-use packet_gather::holding;
 use profile::Profile;
+use state::Awaited;
 use state::Stage;
 use state::State;
+use state::awaits;
+use state::with_held;
 use verdict::Reason;
 use verdict::Verdict;
 
-// The kind of packet that a stage awaits; setting awaits none.
-fn awaited(stage: Stage) -> Kind
-    ensures { λ r. ⌜ r ≡ kindOf stage ⌝ }
-{
-    match stage {
-        Stage::Setting(_) => Kind::Command,
-        Stage::Authentication => Kind::Command,
-        Stage::Command => Kind::Command,
-        Stage::Writing(_) => Kind::Data,
-        Stage::Reading(_) => Kind::Data,
-    }
-}
-
 // COM or RES of an early refusal.
 fn early_code(stage: Stage) -> u8
-    ensures { λ r. ⌜ r ≡ earlyCode stage ⌝ }
+    ensures { λ r. ⌜ r ≡ earlyOf stage .0 ⌝ }
 {
     match stage {
         Stage::Setting(_) => 0x00,
@@ -56,7 +50,7 @@ fn early_code(stage: Stage) -> u8
 
 // The stage that it leads to: a transfer ends.
 fn end_of(stage: Stage) -> Stage
-    ensures { λ r. ⌜ r ≡ endOf stage ⌝ }
+    ensures { λ r. ⌜ r ≡ earlyOf stage .1 ⌝ }
 {
     match stage {
         Stage::Setting(_) => stage,
@@ -69,16 +63,37 @@ fn end_of(stage: Stage) -> Stage
 
 // A length outside its range: refused behind the second length byte.
 fn refuse_early(state: State, reply: &mut [u8]) -> Answered
-    requires { ⌜ 1030 ≤ length (now reply) ⌝ }
-    ensures { λ r. ⌜ Sent (statusReply (earlyCode (state .stage)) (Refused LengthRefused)) (moved (endOf (state .stage)) state) r (now (reply .entry)) (now (reply .exit)) ⌝ }
+    requires { ⌜ Roomy (now reply) ⌝ }
+    ensures { λ r. ⌜ Answers (refusedEarly state) r (now (reply .entry)) (now (reply .exit)) ⌝ }
 {
     let stage = state.stage;
     let code = early_code(stage);
-    let next = answer::in_stage(state, end_of(stage));
-    answer::tell(reply, next, code, Verdict::Refused(Reason::LengthRefused))
+    let next = in_stage(state, end_of(stage));
+    tell(
+        reply,
+        Act::Nothing,
+        next,
+        code,
+        Verdict::Refused(Reason::LengthRefused),
+    )
 }
 
-// A complete packet.
+// What answers a complete packet. Setting awaits none.
+fn decide(profile: Profile, image: &[u8], state: State, packet: &[u8], reply: &mut [u8]) -> Answered
+    requires { ⌜ AcceptedProfile profile × RangeIn (state .stage) × Roomy (now reply) ⌝ }
+    ensures { λ r. ⌜ Answers (answerOf profile (now (image .entry)) state (state .stage) (now (packet .entry))) r (now (reply .entry)) (now (reply .exit)) ⌝ }
+{
+    let stage = state.stage;
+    match stage {
+        Stage::Setting(_) => answer_command(profile, image, state, packet, reply),
+        Stage::Authentication => answer_command(profile, image, state, packet, reply),
+        Stage::Command => answer_command(profile, image, state, packet, reply),
+        Stage::Writing(range) => answer_write(profile, image, state, range, packet, reply),
+        Stage::Reading(range) => answer_next(profile, image, state, range, packet, reply),
+    }
+}
+
+// A complete packet: it is answered, and then its act is performed. No other line of the device changes the flash.
 fn complete(
     profile: Profile,
     image: &mut [u8],
@@ -86,82 +101,51 @@ fn complete(
     packet: &[u8],
     reply: &mut [u8],
 ) -> Answered
-    requires { ⌜ AcceptedProfile profile × RangeIn (state .stage) × (1030 ≤ length (now reply)) ⌝ }
-    ensures { λ r. ⌜ Left (answerOf profile (now (image .entry)) state (state .stage) (now (packet .entry))) r (now (image .exit)) (now (reply .entry)) (now (reply .exit)) ⌝ }
+    requires { ⌜ AcceptedProfile profile × RangeIn (state .stage) × Roomy (now reply) ⌝ }
+    ensures { λ r. ⌜ Completes profile (answerOf profile (now (image .entry)) state (state .stage) (now (packet .entry))) (now (packet .entry)) r
+        (now (image .entry)) (now (image .exit)) (now (reply .entry)) (now (reply .exit)) ⌝ }
 {
-    let stage = state.stage;
-    match stage {
-        Stage::Setting(_) => answer_command::answer_command(profile, image, state, packet, reply),
-        Stage::Authentication => answer_command::answer_command(
-            profile,
-            image,
-            state,
-            packet,
-            reply,
-        ),
-        Stage::Command => answer_command::answer_command(profile, image, state, packet, reply),
-        Stage::Writing(range) => answer_transfer::answer_write(
-            profile,
-            image,
-            state,
-            range,
-            packet,
-            reply,
-        ),
-        Stage::Reading(range) => answer_transfer::answer_next(
-            profile,
-            image,
-            state,
-            range,
-            packet,
-            reply,
-        ),
+    let answered = decide(profile, image, state, packet, reply);
+    let act = answered.act;
+    flash::perform(image, profile, act, packet_fields::info(packet));
+    answered
+}
+
+// No answer: so many bytes are held.
+fn holding(state: State, held: usize) -> Answered
+    ensures { λ r. ⌜ r ≡ record { act = Nothing; state = withHeld held state; count = 0 } ⌝ }
+{
+    Answered {
+        act: Act::Nothing,
+        state: with_held(state, held),
+        count: 0,
     }
 }
 
-// A byte outside setting.
+// A byte where a packet is awaited.
 fn listen(
     profile: Profile,
     image: &mut [u8],
     state: State,
+    kind: Kind,
     receive: &mut [u8],
     reply: &mut [u8],
     byte: u8,
-) -> Stepped
-    requires { ⌜ Ready profile (length (now image)) state (now receive) (length (now reply)) × Listening (state .stage) ⌝ }
-    ensures { λ r. ⌜ Stood (stepOf profile (machineOf (now (image .entry)) state (now (receive .entry))) byte) profile r
-        (now (image .exit)) (now (receive .exit)) (now (reply .entry)) (now (reply .exit)) ⌝ }
+) -> Answered
+    requires { ⌜ Ready profile state (buffers (now image) (now receive) (now reply)) × (awaitsOf (state .stage) ≡ Packet kind) ⌝ }
+    ensures { λ r. ⌜ Stood (stepOf profile (machineOf state (buffers (now (image .entry)) (now (receive .entry)) (now (reply .entry)))) byte) profile
+        (buffers (now (image .entry)) (now (receive .entry)) (now (reply .entry))) (buffers (now (image .exit)) (now (receive .exit)) (now (reply .exit))) r ⌝ }
 {
     let at = state.held;
-    let stage = state.stage;
     receive[at] = byte;
     let n = at + 1;
-    let progress = packet::gathered(&receive[..n], awaited(stage));
+    let progress = packet::gathered(&receive[..n], kind);
     match progress {
-        Progress::Astray => Stepped {
-            state: holding(state, 0),
-            count: 0,
-        },
-        Progress::Partial => Stepped {
-            state: holding(state, n),
-            count: 0,
-        },
-        Progress::Unfit => stepped(refuse_early(state, reply)),
-        Progress::Complete => stepped(complete(profile, image, state, &receive[..n], reply)),
-        Progress::Excess => Stepped {
-            state: holding(state, 0),
-            count: 0,
-        },
-    }
-}
-
-fn stepped(a: Answered) -> Stepped
-    ensures { λ r. ⌜ r ≡ record { state = a .state; count = a .count } ⌝ }
-{
-    let state = a.state;
-    Stepped {
-        state,
-        count: a.count,
+        Progress::Astray => holding(state, 0),
+        Progress::Partial => holding(state, n),
+        Progress::Unfit => refuse_early(state, reply),
+        Progress::Complete => complete(profile, image, state, &receive[..n], reply),
+        Progress::Excess => holding(state, 0),
     }
 }
 
@@ -173,18 +157,28 @@ fn step(
     receive: &mut [u8],
     reply: &mut [u8],
     byte: u8,
-) -> Stepped
-    requires { ⌜ Ready profile (length (now image)) state (now receive) (length (now reply)) ⌝ }
-    ensures { λ r. ⌜ Stood (stepOf profile (machineOf (now (image .entry)) state (now (receive .entry))) byte) profile r
-        (now (image .exit)) (now (receive .exit)) (now (reply .entry)) (now (reply .exit)) ⌝ }
+) -> Answered
+    requires { ⌜ Ready profile state (buffers (now image) (now receive) (now reply)) ⌝ }
+    ensures { λ r. ⌜ Stood (stepOf profile (machineOf state (buffers (now (image .entry)) (now (receive .entry)) (now (reply .entry)))) byte) profile
+        (buffers (now (image .entry)) (now (receive .entry)) (now (reply .entry))) (buffers (now (image .exit)) (now (receive .exit)) (now (reply .exit))) r ⌝ }
 {
     let stage = state.stage;
-    match stage {
-        Stage::Setting(pulse) => stepped(wake(profile, image, state, pulse, byte, reply)),
-        Stage::Authentication => listen(profile, image, state, receive, reply, byte),
-        Stage::Command => listen(profile, image, state, receive, reply, byte),
-        Stage::Writing(_) => listen(profile, image, state, receive, reply, byte),
-        Stage::Reading(_) => listen(profile, image, state, receive, reply, byte),
+    let awaited = awaits(stage);
+    match awaited {
+        Awaited::WakeUp(pulse) => wake(profile, image, state, pulse, byte, reply),
+        Awaited::Packet(kind) => listen(profile, image, state, kind, receive, reply, byte),
+    }
+}
+
+// As many bytes of input as only add to what is awaited, put behind the held ones; how many they are.
+fn add(stage: Stage, held: usize, receive: &mut [u8], input: &[u8]) -> usize
+    requires { ⌜ Holding (awaitsOf stage) held (now receive) ⌝ }
+    ensures { λ r. ⌜ Added (awaitsOf stage) held (now (input .entry)) r (now (receive .entry)) (now (receive .exit)) ⌝ }
+{
+    let awaited = awaits(stage);
+    match awaited {
+        Awaited::WakeUp(_) => 0,
+        Awaited::Packet(kind) => gather(kind, held, receive, input),
     }
 }
 
@@ -197,9 +191,9 @@ fn turns(
     reply: &mut [u8],
     input: &[u8],
 ) -> Fed
-    requires { ⌜ Ready profile (length (now image)) state (now receive) (length (now reply)) ⌝ }
-    ensures { λ r. ⌜ Ran (feedOf profile (machineOf (now (image .entry)) state (now (receive .entry))) (now (input .entry))) (now (input .entry)) r
-        (now (image .exit)) (now (receive .entry)) (now (receive .exit)) (now (reply .entry)) (now (reply .exit)) ⌝ }
+    requires { ⌜ Ready profile state (buffers (now image) (now receive) (now reply)) ⌝ }
+    ensures { λ r. ⌜ Ran (feedOf profile (machineOf state (buffers (now (image .entry)) (now (receive .entry)) (now (reply .entry)))) (now (input .entry))) (now (input .entry))
+        (buffers (now (image .entry)) (now (receive .entry)) (now (reply .entry))) (buffers (now (image .exit)) (now (receive .exit)) (now (reply .exit))) r ⌝ }
 {
     let mut now_state = state;
     let mut i = 0;
@@ -214,8 +208,8 @@ fn turns(
         }
         let stage = now_state.stage;
         let held = now_state.held;
-        let taken = gather(stage, held, receive, &input[i..]);
-        now_state = holding(now_state, held + taken);
+        let taken = add(stage, held, receive, &input[i..]);
+        now_state = with_held(now_state, held + taken);
         i += taken;
     }
     Fed {
@@ -235,14 +229,14 @@ pub(crate) fn run(
     reply: &mut [u8],
     input: &[u8],
 ) -> Fed
-    requires { ⌜ Ready profile (length (now image)) state (now receive) (length (now reply)) ⌝ }
-    ensures { λ r. ⌜ Ran (feedOf profile (machineOf (now (image .entry)) state (now (receive .entry))) (now (input .entry))) (now (input .entry)) r
-        (now (image .exit)) (now (receive .entry)) (now (receive .exit)) (now (reply .entry)) (now (reply .exit)) ⌝ }
+    requires { ⌜ Ready profile state (buffers (now image) (now receive) (now reply)) ⌝ }
+    ensures { λ r. ⌜ Ran (feedOf profile (machineOf state (buffers (now (image .entry)) (now (receive .entry)) (now (reply .entry)))) (now (input .entry))) (now (input .entry))
+        (buffers (now (image .entry)) (now (receive .entry)) (now (reply .entry))) (buffers (now (image .exit)) (now (receive .exit)) (now (reply .exit))) r ⌝ }
 {
     let stage = state.stage;
     let held = state.held;
-    let taken = gather(stage, held, receive, input);
-    let first = holding(state, held + taken);
+    let taken = add(stage, held, receive, input);
+    let first = with_held(state, held + taken);
     if input.len() <= taken {
         return Fed {
             refusal: Refusal::Accepted,

@@ -1,21 +1,16 @@
 // The device: start, reset, feed.
 mod feeding;
 
-ghost use mathlib.Core.Path.{_≡_};
-ghost use lib.ListN.{length};
-ghost use Rattle.verdict.specs.Check.{firstFault};
-ghost use Rattle.device_calls.specs.Calls.{feedRows, refusalOf};
-ghost use Rattle.device_steps.specs.Step.{machineOf};
-ghost use Rattle.device_steps.specs.Feed.{feedOf};
-ghost use Rattle.device.specs.Post.{FedBy};
+ghost use Rattle.device_calls.specs.Calls.{buffers};
+ghost use Rattle.device.specs.Post.{Feeds};
 pub use device_calls::Refusal;
+pub use device_calls::Row;
 pub use device_calls::Started;
 pub use device_calls::is_accepted;
 pub use device_calls::number;
 use device_calls::refused;
 pub use device_calls::reset;
 pub use device_calls::start;
-pub use device_calls::zero;
 use feeding::run;
 use profile::Profile;
 use state::State;
@@ -28,12 +23,6 @@ pub struct Fed {
     pub count: usize,
 }
 
-// What one byte leads to.
-pub struct Stepped {
-    pub state: State,
-    pub count: usize,
-}
-
 // Received bytes, up to the one that completes the first reply.
 pub fn feed(
     profile: Profile,
@@ -43,9 +32,8 @@ pub fn feed(
     reply: &mut [u8],
     input: &[u8],
 ) -> Fed
-    ensures { λ r. ⌜ FedBy (refusalOf (firstFault (feedRows profile (length (now (image .entry))) state (now (receive .entry)) (length (now (reply .entry))))))
-        (feedOf profile (machineOf (now (image .entry)) state (now (receive .entry))) (now (input .entry))) (now (input .entry)) state r
-        (now (image .entry)) (now (image .exit)) (now (receive .entry)) (now (receive .exit)) (now (reply .entry)) (now (reply .exit)) ⌝ }
+    ensures { λ r. ⌜ Feeds profile state (now (input .entry)) (buffers (now (image .entry)) (now (receive .entry)) (now (reply .entry)))
+        (buffers (now (image .exit)) (now (receive .exit)) (now (reply .exit))) r ⌝ }
 {
     let refusal = refused(profile, image.len(), state, receive, reply.len());
     if is_accepted(refusal) {

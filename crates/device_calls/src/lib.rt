@@ -3,21 +3,17 @@ mod refusals;
 
 ghost use mathlib.Core.Path.{_≡_};
 ghost use lib.ListN.{length};
-ghost use Rattle.verdict.specs.Check.{firstFault};
-ghost use Rattle.device_calls.specs.Calls.{startRows, refusalOf, zeroState, startedBy, resetBy};
-use baud::LineSetting;
+ghost use Rattle.state.specs.State.{zeroState};
+ghost use Rattle.device_calls.specs.Calls.{startRefusal, startedBy};
 use profile::Profile;
 pub use refusals::is_accepted;
 pub use refusals::number;
 pub use refusals::refused;
 use refusals::unstarted;
-use state::Pulse;
-use state::Stage;
 use state::State;
 
-// Why a call is refused, and the case of one that is not.
-pub enum Refusal {
-    Accepted,
+// The rows of the refused calls, in order of check.
+pub enum Row {
     // the profile is not acceptable: 4
     Unacceptable,
     // the image's length is not the profile's total: 1
@@ -30,31 +26,21 @@ pub enum Refusal {
     ShortReply,
 }
 
+// A call is accepted, or refused by a row.
+pub enum Refusal {
+    Accepted,
+    By(Row),
+}
+
 // What starting and resetting answer.
 pub struct Started {
     pub refusal: Refusal,
     pub state: State,
 }
 
-// The state of a refused start.
-pub fn zero() -> State
-    ensures { λ r. ⌜ r ≡ zeroState ⌝ }
-{
-    State {
-        stage: Stage::Setting(Pulse::Zero),
-        id: [0u8; 16],
-        line: LineSetting {
-            abcs: 0,
-            brr: 0,
-            mddr: 0,
-        },
-        held: 0,
-    }
-}
-
 // A fresh state for a profile and an image.
 pub fn start(profile: Profile, image: &[u8]) -> Started
-    ensures { λ r. ⌜ r ≡ startedBy (refusalOf (firstFault (startRows profile (length (now (image .entry)))))) profile ⌝ }
+    ensures { λ r. ⌜ r ≡ startedBy (startRefusal profile (length (now (image .entry)))) profile zeroState ⌝ }
 {
     let refusal = unstarted(profile, image.len());
     if is_accepted(refusal) {
@@ -65,13 +51,13 @@ pub fn start(profile: Profile, image: &[u8]) -> Started
     }
     Started {
         refusal,
-        state: zero(),
+        state: state::zero(),
     }
 }
 
 // Starting again, whatever the state was; a refused reset leaves it.
 pub fn reset(profile: Profile, image: &[u8], state: State) -> Started
-    ensures { λ r. ⌜ r ≡ resetBy (refusalOf (firstFault (startRows profile (length (now (image .entry)))))) profile state ⌝ }
+    ensures { λ r. ⌜ r ≡ startedBy (startRefusal profile (length (now (image .entry)))) profile state ⌝ }
 {
     let refusal = unstarted(profile, image.len());
     if is_accepted(refusal) {

@@ -10,7 +10,7 @@ use Rattle.verdict.specs.Check.{firstFault}
 use Rattle.profile.specs.Areas.{entries, inside}
 use Rattle.profile.specs.Places.{placeFrom}
 use Rattle.profile.specs.Bench.{bench}
-use Rattle.packet.specs.Packet.{permitted, lengthOf, measuredOf, progressOf, totalOf, endingChecks, lack, frame}
+use Rattle.packet.specs.Packet.{permitted, lengthOf, measuredOf, progressOf, sumOf, endingChecks, lack, frame}
 use Rattle.profile_ranges.specs.Ranges.{unitChecks, limited, windowChecks, changeChecks, purposeChecks, endChecks, rangeChecks}
 use Rattle.packet_messages.specs.Messages.{signatureMessage}
 use Rattle.state.specs.declared.Pulse.the-variants.{Zero}
@@ -18,7 +18,7 @@ use Rattle.state.specs.declared.Stage.{Stage}
 use Rattle.state.specs.declared.Stage.the-variants.{Setting, Authentication, Command}
 use Rattle.state.specs.State.{freshState}
 use Rattle.packet_fields.specs.Fields.{comOf, fourAt}
-use Rattle.check_command.specs.Commands.{formChecks, areaChecks, ownChecks, knownChecks, commandChecks}
+use Rattle.check_command.specs.Commands.{formChecks, areaNumberChecks, ownChecks, knownChecks, commandChecks}
 use Rattle.answer.specs.Answer.{moved}
 use Rattle.answer_command.specs.Grants.{grantOf, decided, answerCommand}
 use Rattle.answer_waking.specs.Wake.{wakeOf}
@@ -85,7 +85,7 @@ table =
     ∷ []
 
 pub examples-hold : (image : List ℕ) → map (λ (l : Line). replies (deviceIn (l .stage) image) (l .sent)) table ≡ map (λ (l : Line). l .back) table
-unfolding feedOf stepOf stepIn heard wakeOf answerCommand decided grantOf commandChecks knownChecks formChecks ownChecks areaChecks comOf fourAt freshState
+unfolding feedOf stepOf stepIn heard wakeOf answerCommand decided grantOf commandChecks knownChecks formChecks ownChecks areaNumberChecks comOf fourAt freshState
     rangeChecks endChecks purposeChecks changeChecks unitChecks windowChecks limited entries inside placeFrom firstFault
-    progressOf measuredOf lengthOf permitted endingChecks totalOf lack frame number numberAt bytesOf signatureMessage
+    progressOf measuredOf lengthOf permitted endingChecks sumOf lack frame number numberAt bytesOf signatureMessage
 examples-hold image = refl

@@ -2,22 +2,21 @@
 use mathlib.Core.Bool.{Bool, true, false, _&&_, cond}
 use mathlib.Core.List.{List, [], _∷_}
 use mathlib.Core.Option.{Option, none, some}
-use mathlib.Core.Path.{_≡_, refl, sym, ap, subst, _∙_}
+use mathlib.Core.Path.{_≡_, refl, sym, subst}
 use Prim.Native.Nat.{ℕ, _+_, _-_, _%_, _≤_, _<_}
 use native.Mathlib.Omega.{arith}
 use lib.Dec.{leb, eqb}
 use borrow.Author.Tests.{leb-true, le-leb, eqb-false}
 use Rattle.verdict.specs.declared.Reason.{Reason}
-use Rattle.verdict.specs.Check.{firstFault}
+use Rattle.verdict.specs.Check.{firstFault, passes}
 use Rattle.profile.specs.declared.Area.{Area}
-use Rattle.profile.specs.declared.Place.{Place}
 use Rattle.profile.specs.declared.Place.the-variants.{In}
 use Rattle.profile.specs.declared.Spot.{Spot}
 use Rattle.profile.specs.declared.Window.{Window}
-use Rattle.profile.specs.Areas.{sizeOf, inside}
-use Rattle.profile.specs.Places.{placeFrom, placeOf}
+use Rattle.profile.specs.Places.{placeOf, unitAt}
 use Rattle.profile.proofs.Places.{Above, whole-area}
 use Rattle.profile_rules.specs.Sound.{Ascending}
+use Rattle.profile_rules.proofs.Accepted.{below-top}
 use Rattle.profile_ranges.specs.declared.Purpose.{Purpose}
 use Rattle.profile_ranges.specs.declared.Purpose.the-variants.{Write as ToWrite, Read as ToRead}
 use Rattle.profile_ranges.specs.Ranges.{rangeChecks, Permitted}
@@ -27,29 +26,17 @@ use Rattle.packet.proofs.Laws.{impossible, both}
 use Rattle.state.specs.declared.Range.{Range}
 use Rattle.state.specs.declared.Stage.{Stage}
 use Rattle.state.specs.declared.Stage.the-variants.{Command, Writing, Reading}
-use Rattle.state.specs.Fits.{passes, rangeFits, stageFits}
-use Rattle.check_transfer.specs.Transfer.{unitAt}
+use Rattle.state.specs.Fits.{rangeFits, stageFits}
+use Rattle.check_transfer.specs.Transfer.{unitBefore}
+use Rattle.check_transfer.proofs.Boundary.{same-boundary}
 use Rattle.answer_command.specs.Grants.{spanOf}
-use Rattle.answer_transfer.specs.Transfers.{after}
+use Rattle.answer_transfer.specs.Transfers.{restOf, after}
 
 -- areas that are sound ascend
 pub above : (free : ℕ) (areas : List Area) → Ascending free areas → Above free areas
 unfolding Ascending Above
 above free [] s = tt
 above free (a ∷ more) s = (s .0 .above, s .0 .in-order, above (a .ead + 1) more (s .1))
-
--- so the area of an address that is found ends below the top of the addresses
-pub below-top : (free base : ℕ) (areas : List Area) (x : ℕ) (spot : Spot) → Ascending free areas → placeFrom base areas x ≡ In spot → spot .area .ead < 0xFFFFFFFF
-unfolding Ascending placeFrom
-below-top free base [] x spot s e = impossible (cc)
-below-top free base (a ∷ more) x spot s e = go (inside a x) refl (below-top (a .ead + 1) (base + sizeOf a) more x spot (s .1))
-  where
-    go : (t : Bool) → inside a x ≡ t → (placeFrom (base + sizeOf a) more x ≡ In spot → spot .area .ead < 0xFFFFFFFF) → spot .area .ead < 0xFFFFFFFF
-    go true i later =
-        let here : In (record { area = a; base = base }) ≡ In spot = rw i at e in
-        let it : record { area = a; base = base } ≡ spot = cc in
-        subst (λ (k : Spot). k .area .ead < 0xFFFFFFFF) it (s .0 .below-top)
-    go false i later = later (rw i at e)
 
 -- a range that fits, by its parts
 pub record Going (areas : List Area) (w : Window) (purpose : Purpose) (r : Range) : Type 0 where
@@ -84,12 +71,12 @@ same-end s left n h = omega arith
 
 -- a transfer goes on, or its end leads to command stage
 after-fits : (areas : List Area) (w : Window) (turn : Range → Stage) (r : Range) (n : ℕ)
-    → (n ≤ r .left) → (n < r .left → stageFits areas w (turn (record { next = r .next + n; left = r .left - n })) ≡ true)
+    → (n ≤ r .left) → (n < r .left → stageFits areas w (turn (restOf r n)) ≡ true)
     → stageFits areas w (after turn r n) ≡ true
 unfolding after stageFits
 after-fits areas w turn r n most more = go (eqb (r .left) n) refl
   where
-    go : (t : Bool) → eqb (r .left) n ≡ t → stageFits areas w (cond t Command (turn (record { next = r .next + n; left = r .left - n }))) ≡ true
+    go : (t : Bool) → eqb (r .left) n ≡ t → stageFits areas w (cond t Command (turn (restOf r n))) ≡ true
     go true e = refl
     go false e = more (omega (arith, eqb-false (r .left) n e))
 
@@ -108,40 +95,42 @@ module _ (areas : List Area) (sound : Ascending 0 areas) (w : Window) where
       }
 
   module _ (r : Range) (n : ℕ) where
-    abbrev rest : Range
-    rest = record { next = r .next + n; left = r .left - n }
-
     abbrev end : ℕ
     end = r .next + r .left - 1
 
-    onward : (purpose : Purpose) → n < r .left → r .next + r .left ≤ 0x100000000 → Permitted areas w purpose (r .next + n) end → Going areas w purpose rest
-    onward purpose h reach p =
-        record {
+    -- it lies in one area, whose addresses are all found there
+    lies : (purpose : Purpose) → Going areas w purpose r → Lies areas w purpose (r .next) end
+    lies purpose g = in-area areas w purpose (r .next) end (g .permits)
+
+    same : (spot : Spot) → placeOf areas (r .next) ≡ In spot → (x : ℕ) → spot .area .sad ≤ x → x ≤ spot .area .ead → placeOf areas x ≡ In spot
+    same spot f = whole-area 0 0 areas (r .next) spot (above 0 areas sound) f
+
+    onward : (purpose : Purpose) → Going areas w purpose r → n < r .left → Permitted areas w purpose (r .next + n) end
+        → rangeFits areas w purpose (restOf r n) ≡ true
+    onward purpose g h p =
+        going-fits areas w purpose (restOf r n)
+        (record {
           some-left = omega arith;
           in-reach = omega arith;
           permits = subst (Permitted areas w purpose (r .next + n)) (sym (same-end (r .next) (r .left) n h)) p;
-        }
-
-    read-on : Going areas w ToRead r → n < r .left → Going areas w ToRead rest
-    read-on g h =
-        let l : Lies areas w ToRead (r .next) end = in-area areas w ToRead (r .next) end (g .permits) in
-        let f : placeOf areas (r .next) ≡ In (l .spot) = l .inArea .found in
-        onward ToRead h (g .in-reach)
-        (split-read areas w (r .next) end n (l .spot) f (whole-area 0 0 areas (r .next) (l .spot) (above 0 areas sound) f) (omega arith) (g .permits))
-
-    -- whole units of the area in which it goes on
-    write-on : Going areas w ToWrite r → n % unitAt (placeOf areas (r .next)) ≡ 0 → n < r .left → Going areas w ToWrite rest
-    write-on g d h =
-        let l : Lies areas w ToWrite (r .next) end = in-area areas w ToWrite (r .next) end (g .permits) in
-        let f : placeOf areas (r .next) ≡ In (l .spot) = l .inArea .found in
-        let units : n % l .spot .area .wau ≡ 0 = ap (λ (k : Place). n % unitAt k) (sym f) ∙ d in
-        onward ToWrite h (g .in-reach)
-        (split-write areas w (r .next) end n (l .spot) f (whole-area 0 0 areas (r .next) (l .spot) (above 0 areas sound) f) (omega arith) units (g .permits))
+        })
 
     pub read-after : Going areas w ToRead r → n ≤ r .left → stageFits areas w (after Reading r n) ≡ true
     unfolding stageFits
-    read-after g most = after-fits areas w Reading r n most (λ h. going-fits areas w ToRead rest (read-on g h))
+    read-after g most =
+        let l : Lies areas w ToRead (r .next) end = lies ToRead g in
+        let f : placeOf areas (r .next) ≡ In (l .spot) = l .inArea .found in
+        after-fits areas w Reading r n most
+        (λ h. onward ToRead g h (split-read areas w (r .next) end n (l .spot) f (same (l .spot) f) (omega arith) (g .permits)))
 
-    pub write-after : Going areas w ToWrite r → n % unitAt (placeOf areas (r .next)) ≡ 0 → n ≤ r .left → stageFits areas w (after Writing r n) ≡ true
+    -- up to a boundary of the unit of the area in which the last of them stands
+    pub write-after : Going areas w ToWrite r → (n ≡ 0 → ⊥) → (r .next + n) % unitBefore areas (r .next + n) ≡ 0 → n ≤ r .left
+        → stageFits areas w (after Writing r n) ≡ true
     unfolding stageFits
-    write-after g d most = after-fits areas w Writing r n most (λ h. going-fits areas w ToWrite rest (write-on g d h))
+    write-after g any d most =
+        let l : Lies areas w ToWrite (r .next) end = lies ToWrite g in
+        let f : placeOf areas (r .next) ≡ In (l .spot) = l .inArea .found in
+        let units : n % unitAt (placeOf areas (r .next)) ≡ 0 =
+        same-boundary areas (above 0 areas sound) w (r .next) end n (g .permits) (omega arith) (omega arith) .0 d in
+        after-fits areas w Writing r n most
+        (λ h. onward ToWrite g h (split-write areas w (r .next) end n (l .spot) f (same (l .spot) f) (omega arith) (rw f at units) (g .permits)))

@@ -5,29 +5,27 @@ use mathlib.Core.Logic.{_⊎_, inl, inr, ⊎-elim, _↔_}
 use mathlib.Core.Path.{_≡_, refl, ap, subst, _∙_}
 use Prim.Native.Nat.{ℕ, _+_, _≤_}
 use native.Mathlib.Omega.{arith}
-use lib.ListN.{length, getD, length-take}
+use lib.ListN.{length, getD}
 use lib.Dec.{eqb}
 use Rattle.numbers.specs.Bytes.{bytesOf}
 use Rattle.verdict.specs.declared.Reason.the-variants.{LengthRefused}
 use Rattle.verdict.specs.declared.Verdict.{Verdict}
 use Rattle.verdict.specs.declared.Verdict.the-variants.{Granted, Refused}
 use Rattle.verdict.specs.Check.{firstFault, verdictOf}
-use Rattle.profile.specs.declared.Area.{Area}
 use Rattle.profile.specs.declared.Profile.{Profile}
-use Rattle.profile.specs.declared.Place.{Place}
-use Rattle.profile.specs.declared.Place.the-variants.{In, Nowhere}
 use Rattle.profile.specs.Areas.{areasOf, noArea}
-use Rattle.profile.specs.Places.{placeOf}
-use Rattle.packet.specs.declared.Kind.the-variants.{Data, Command as CommandPacket, Data as DataPacket}
+use Rattle.packet.specs.declared.Kind.the-variants.{Data}
 use Rattle.packet.specs.declared.Progress.{Progress}
 use Rattle.packet.specs.declared.Progress.the-variants.{Astray, Partial, Unfit, Complete, Excess}
 use Rattle.packet.specs.Packet.{progressOf, isComplete, frame}
 use Rattle.packet.proofs.Laws.{impossible}
 use Rattle.packet.proofs.Frames.{frame-length}
-use Rattle.flash.specs.Effects.{blanked, fetched, fetchedAt}
+use Rattle.flash.specs.declared.Act.the-variants.{Nothing, EraseAll}
+use Rattle.flash.specs.Effects.{fetched}
+use Rattle.flash.proofs.ByAddress.{fetched-most}
 use Rattle.id_code.specs.Identity.{totalErase}
 use Rattle.packet_messages.specs.Messages.{areaMessage, signatureMessage}
-use Rattle.packet_reply.specs.Reply.{statusReply, dataReply, statusContents, dataContents}
+use Rattle.packet_reply.specs.Reply.{statusReply, dataReply, statusContents}
 use Rattle.packet_fields.specs.declared.Com.{Com}
 use Rattle.packet_fields.specs.declared.Com.the-variants.{Inquiry, Erase, Write, Read, Authenticate, Baud, Signature, Area as AreaCommand, Unknown}
 use Rattle.state.specs.declared.Pulse.{Pulse}
@@ -36,15 +34,18 @@ use Rattle.state.specs.declared.Range.{Range}
 use Rattle.state.specs.declared.Stage.{Stage}
 use Rattle.state.specs.declared.Stage.the-variants.{Setting, Authentication, Command, Writing, Reading}
 use Rattle.state.specs.declared.State.{State}
-use Rattle.packet_fields.specs.Fields.{comOf, codeAt, infoOf, sadOf, eadOf, numberOf}
+use Rattle.packet_fields.specs.Fields.{comOf, codeAt, infoOf, sadOf, eadOf, areaNumberOf}
 use Rattle.check_command.specs.Commands.{commandChecks}
+use Rattle.state.specs.declared.Awaited.{Awaited}
+use Rattle.state.specs.declared.Awaited.the-variants.{WakeUp, Packet}
+use Rattle.state.specs.Awaits.{awaitsOf}
 use Rattle.state.specs.State.{freshState}
 use Rattle.check_transfer.specs.Transfer.{writeChecks, nextChecks}
-use Rattle.answer.specs.Answer.{Answer, moved}
-use Rattle.answer_command.specs.Grants.{ok, spanOf, entered, grantOf, decided, answerCommand}
+use Rattle.answer.specs.Answer.{moved}
+use Rattle.answer_command.specs.Grants.{told, spanOf, entered, grantOf, decided, answerCommand}
 use Rattle.answer_transfer.specs.Transfers.{readCount, readPacket, writeDecided, answerWrite, nextDecided, answerNext}
-use Rattle.answer_waking.specs.Wake.{awake, goes, wakeOf}
-use Rattle.device_steps.specs.Step.{Machine, earlyCode, heard, stepIn, stepOf}
+use Rattle.answer_waking.specs.Wake.{awake, woken, goes, wakeOf}
+use Rattle.device_steps.specs.Step.{Machine, earlyOf, answerOf, heard, stepIn, stepOf}
 use Rattle.device_steps.specs.Feed.{Delivery, feedOf}
 use Rattle.device_steps.specs.Records.{isUnfit, progressIn, heardWith, completes, refuses}
 use Rattle.device_steps.proofs.Delivered.{by-reply, feed-none, FromByte, reply-is}
@@ -60,7 +61,7 @@ pub status-packet : (request : ℕ) (v : Verdict) → IsPacket (statusReply requ
 status-packet request v = record { contents = statusContents request v; is = refl; least = omega arith; most = omega arith }
 
 pub data-packet : (res : ℕ) (bytes : List ℕ) → length bytes ≤ 1024 → IsPacket (dataReply res bytes)
-data-packet res bytes h = record { contents = dataContents res bytes; is = refl; least = omega arith; most = omega arith }
+data-packet res bytes h = record { contents = res ∷ bytes; is = refl; least = omega arith; most = omega arith }
 
 module _ {reply : List ℕ} (r : IsPacket reply) where
   pub packet-starts : getD reply 0 0 ≡ 0x81
@@ -76,15 +77,6 @@ module _ {reply : List ℕ} (r : IsPacket reply) where
   pub packet-most : length reply ≤ 1030
   packet-most = omega (arith, packet-counts, r .most)
 
--- no more is fetched than was asked for
-pub fetched-most : (areas : List Area) (x n : ℕ) (image : List ℕ) → length (fetched areas x n image) ≤ n
-unfolding fetched fetchedAt
-fetched-most areas x n image = by-place (placeOf areas x)
-  where
-    by-place : (place : Place) → length (fetchedAt place x n image) ≤ n
-    by-place Nowhere = omega arith
-    by-place (In spot) = simp length-take (omega arith)
-
 -- every answer to a complete packet is a reply packet
 module _ (p : Profile) (image : List ℕ) (st : State) where
   read-packet : (r : Range) → IsPacket (readPacket p image st r .reply)
@@ -93,11 +85,11 @@ module _ (p : Profile) (image : List ℕ) (st : State) where
       let h : length (fetched (areasOf p) (r .next) (readCount r) image) ≤ readCount r = fetched-most (areasOf p) (r .next) (readCount r) image in
       data-packet 0x15 (fetched (areasOf p) (r .next) (readCount r) image) (omega arith)
 
-  entered-packet : (q : List ℕ) → IsPacket (entered p image st q .reply)
+  entered-packet : (q : List ℕ) → IsPacket (entered p st q .reply)
   unfolding entered
   entered-packet q = by-test (totalErase (st .id) (infoOf q))
     where
-      by-test : (t : Bool) → IsPacket (cond t (ok q (blanked image) (freshState p)) (ok q image (moved Command st)) .reply)
+      by-test : (t : Bool) → IsPacket (cond t (told q Granted EraseAll (freshState p)) (told q Granted Nothing (moved Command st)) .reply)
       by-test true = status-packet (codeAt q) Granted
       by-test false = status-packet (codeAt q) Granted
 
@@ -110,7 +102,7 @@ module _ (p : Profile) (image : List ℕ) (st : State) where
   grant-packet q Authenticate = entered-packet q
   grant-packet q Baud = status-packet (codeAt q) Granted
   grant-packet q Signature = data-packet 0x3A (signatureMessage p) (omega arith)
-  grant-packet q AreaCommand = data-packet 0x3B (areaMessage (getD (p .areas) (numberOf q) noArea)) (omega arith)
+  grant-packet q AreaCommand = data-packet 0x3B (areaMessage (getD (p .areas) (areaNumberOf q) noArea)) (omega arith)
   grant-packet q Unknown = status-packet (codeAt q) Granted
 
   pub command-packet : (q : List ℕ) → IsPacket (answerCommand p image st q .reply)
@@ -125,7 +117,7 @@ module _ (p : Profile) (image : List ℕ) (st : State) where
   unfolding answerWrite writeDecided
   write-packet r q = by-verdict (verdictOf (firstFault (writeChecks (areasOf p) image r q)))
     where
-      by-verdict : (v : Verdict) → IsPacket (writeDecided p image st r q v .reply)
+      by-verdict : (v : Verdict) → IsPacket (writeDecided st r q v .reply)
       by-verdict Granted = status-packet 0x13 Granted
       by-verdict (Refused reason) = status-packet 0x13 (Refused reason)
 
@@ -137,50 +129,51 @@ module _ (p : Profile) (image : List ℕ) (st : State) where
       by-verdict Granted = read-packet r
       by-verdict (Refused reason) = status-packet 0x15 (Refused reason)
 
+  -- whatever the stage
+  answer-packet : (s : Stage) (q : List ℕ) → IsPacket (answerOf p image st s q .reply)
+  answer-packet (Setting u) q = command-packet q
+  answer-packet Authentication q = command-packet q
+  answer-packet Command q = command-packet q
+  answer-packet (Writing r) q = write-packet r q
+  answer-packet (Reading r) q = next-packet r q
+
 -- waking up is answered by nothing, 00h or C3h
 abbrev pub WakeReply : List ℕ → Type 0
 WakeReply r = (r ≡ []) ⊎ ((r ≡ 0x00 ∷ []) ⊎ (r ≡ 0xC3 ∷ []))
 
 -- what is answered where no request is complete
-abbrev pub Unasked : Stage → List ℕ → Type 0
-Unasked (Setting u) r = WakeReply r
-Unasked Authentication r = r ≡ []
-Unasked Command r = r ≡ []
-Unasked (Writing g) r = r ≡ []
-Unasked (Reading g) r = r ≡ []
+abbrev pub Unasked : Awaited → List ℕ → Type 0
+Unasked (WakeUp u) r = WakeReply r
+Unasked (Packet kind) r = r ≡ []
 
 pub wake-reply : (p : Profile) (image : List ℕ) (st : State) (u : Pulse) (b : ℕ) → WakeReply (wakeOf p image st u b .reply)
 unfolding wakeOf
 wake-reply p image st Zero b = by-test (eqb b 0x00)
   where
-    by-test : (t : Bool) → WakeReply (cond t (goes image st One []) (goes image st Zero []) .reply)
+    by-test : (t : Bool) → WakeReply (cond t (goes st One []) (goes st Zero []) .reply)
     by-test true = inl refl
     by-test false = inl refl
 wake-reply p image st One b = by-test (eqb b 0x00)
   where
-    by-test : (t : Bool) → WakeReply (cond t (goes image st Acknowledged (0x00 ∷ [])) (goes image st Zero []) .reply)
+    by-test : (t : Bool) → WakeReply (cond t (goes st Acknowledged (0x00 ∷ [])) (goes st Zero []) .reply)
     by-test true = inr (inl refl)
     by-test false = inl refl
 wake-reply p image st Acknowledged b = by-tests (eqb b 0x55) (eqb b 0x00)
   where
     by-tests : (s t : Bool)
         → WakeReply
-        (cond s (record { image = image; state = awake p image st; reply = 0xC3 ∷ [] }) (cond t (goes image st Acknowledged []) (goes image st Zero []))
-        .reply)
+        (cond s (woken (awake p image st) (0xC3 ∷ [])) (cond t (goes st Acknowledged []) (goes st Zero [])) .reply)
     by-tests true t = inr (inr refl)
     by-tests false true = inl refl
     by-tests false false = inl refl
 
-unasked-few : (s : Stage) (r : List ℕ) → Unasked s r → length r ≤ 1
-unasked-few (Setting u) r w = ⊎-elim (λ e. rw e (omega arith)) (λ x. ⊎-elim (λ e. rw e (omega arith)) (λ e. rw e (omega arith)) x) w
-unasked-few Authentication r e = rw e (omega arith)
-unasked-few Command r e = rw e (omega arith)
-unasked-few (Writing g) r e = rw e (omega arith)
-unasked-few (Reading g) r e = rw e (omega arith)
+unasked-few : (a : Awaited) (r : List ℕ) → Unasked a r → length r ≤ 1
+unasked-few (WakeUp u) r w = ⊎-elim (λ e. rw e (omega arith)) (λ x. ⊎-elim (λ e. rw e (omega arith)) (λ e. rw e (omega arith)) x) w
+unasked-few (Packet kind) r e = rw e (omega arith)
 
--- a byte in a stage that awaits a packet
-module _ (answer : List ℕ → Answer) (m : Machine) (q : List ℕ) where
-  heard-unasked : (x : Progress) → isComplete x ≡ false → isUnfit x ≡ false → heard answer m q x .reply ≡ []
+-- a byte where a packet is awaited
+module _ (p : Profile) (m : Machine) (q : List ℕ) where
+  heard-unasked : (x : Progress) → isComplete x ≡ false → isUnfit x ≡ false → heard p m q x .reply ≡ []
   unfolding heard
   heard-unasked Astray c u = refl
   heard-unasked Partial c u = refl
@@ -188,13 +181,13 @@ module _ (answer : List ℕ → Answer) (m : Machine) (q : List ℕ) where
   heard-unasked Complete c u = impossible (cc)
   heard-unasked Excess c u = refl
 
-  heard-packet : IsPacket (answer q .reply) → (x : Progress) → (isComplete x ≡ true) ⊎ (isUnfit x ≡ true) → IsPacket (heard answer m q x .reply)
+  heard-packet : (x : Progress) → (isComplete x ≡ true) ⊎ (isUnfit x ≡ true) → IsPacket (heard p m q x .reply)
   unfolding heard
-  heard-packet k Astray h = ⊎-elim (λ e. impossible (cc)) (λ e. impossible (cc)) h
-  heard-packet k Partial h = ⊎-elim (λ e. impossible (cc)) (λ e. impossible (cc)) h
-  heard-packet k Unfit h = status-packet (earlyCode (m .state .stage)) (Refused LengthRefused)
-  heard-packet k Complete h = k
-  heard-packet k Excess h = ⊎-elim (λ e. impossible (cc)) (λ e. impossible (cc)) h
+  heard-packet Astray h = ⊎-elim (λ e. impossible (cc)) (λ e. impossible (cc)) h
+  heard-packet Partial h = ⊎-elim (λ e. impossible (cc)) (λ e. impossible (cc)) h
+  heard-packet Unfit h = status-packet (earlyOf (m .state .stage) .0) (Refused LengthRefused)
+  heard-packet Complete h = answer-packet p (m .image) (m .state) (m .state .stage) q
+  heard-packet Excess h = ⊎-elim (λ e. impossible (cc)) (λ e. impossible (cc)) h
 
 -- the byte completes a request, or its length is refused
 abbrev pub Asked : Machine → ℕ → Type 0
@@ -204,39 +197,31 @@ module _ (p : Profile) (m : Machine) (b : ℕ) where
   abbrev q : List ℕ
   q = heardWith m b
 
-  unasked-in : (s : Stage) → isComplete (progressIn s q) ≡ false → isUnfit (progressIn s q) ≡ false → Unasked s (stepIn p m s b .reply)
+  unasked-in : (a : Awaited) → isComplete (progressIn a q) ≡ false → isUnfit (progressIn a q) ≡ false → Unasked a (stepIn p m a b .reply)
   unfolding stepIn progressIn
-  unasked-in (Setting u) c f = wake-reply p (m .image) (m .state) u b
-  unasked-in Authentication c f = heard-unasked (answerCommand p (m .image) (m .state)) m q (progressOf CommandPacket q) c f
-  unasked-in Command c f = heard-unasked (answerCommand p (m .image) (m .state)) m q (progressOf CommandPacket q) c f
-  unasked-in (Writing r) c f = heard-unasked (answerWrite p (m .image) (m .state) r) m q (progressOf DataPacket q) c f
-  unasked-in (Reading r) c f = heard-unasked (answerNext p (m .image) (m .state) r) m q (progressOf DataPacket q) c f
+  unasked-in (WakeUp u) c f = wake-reply p (m .image) (m .state) u b
+  unasked-in (Packet kind) c f = heard-unasked p m q (progressOf kind q) c f
 
-  packet-in : (s : Stage) → (isComplete (progressIn s q) ≡ true) ⊎ (isUnfit (progressIn s q) ≡ true) → IsPacket (stepIn p m s b .reply)
+  packet-in : (a : Awaited) → (isComplete (progressIn a q) ≡ true) ⊎ (isUnfit (progressIn a q) ≡ true) → IsPacket (stepIn p m a b .reply)
   unfolding stepIn progressIn
-  packet-in (Setting u) h = ⊎-elim (λ e. impossible (cc)) (λ e. impossible (cc)) h
-  packet-in Authentication h =
-      heard-packet (answerCommand p (m .image) (m .state)) m q (command-packet p (m .image) (m .state) q) (progressOf CommandPacket q) h
-  packet-in Command h =
-      heard-packet (answerCommand p (m .image) (m .state)) m q (command-packet p (m .image) (m .state) q) (progressOf CommandPacket q) h
-  packet-in (Writing r) h = heard-packet (answerWrite p (m .image) (m .state) r) m q (write-packet p (m .image) (m .state) r q) (progressOf DataPacket q) h
-  packet-in (Reading r) h = heard-packet (answerNext p (m .image) (m .state) r) m q (next-packet p (m .image) (m .state) r q) (progressOf DataPacket q) h
+  packet-in (WakeUp u) h = ⊎-elim (λ e. impossible (cc)) (λ e. impossible (cc)) h
+  packet-in (Packet kind) h = heard-packet p m q (progressOf kind q) h
 
   -- a byte that completes no request and is refused none gets no reply packet
-  pub quiet-step : completes m b ≡ false → refuses m b ≡ false → Unasked (m .state .stage) (stepOf p m b .reply)
+  pub quiet-step : completes m b ≡ false → refuses m b ≡ false → Unasked (awaitsOf (m .state .stage)) (stepOf p m b .reply)
   unfolding stepOf completes refuses
-  quiet-step c f = unasked-in (m .state .stage) c f
+  quiet-step c f = unasked-in (awaitsOf (m .state .stage)) c f
 
   -- a complete request and an early refusal each get one
   pub packet-step : Asked m b → IsPacket (stepOf p m b .reply)
   unfolding stepOf completes refuses
-  packet-step h = packet-in (m .state .stage) h
+  packet-step h = packet-in (awaitsOf (m .state .stage)) h
 
   by-tests : (s t : Bool) → completes m b ≡ s → refuses m b ≡ t
       → Asked m b ⊎ (length (stepOf p m b .reply) ≤ 1)
   by-tests true t c f = inl (inl c)
   by-tests false true c f = inl (inr f)
-  by-tests false false c f = inr (unasked-few (m .state .stage) (stepOf p m b .reply) (quiet-step c f))
+  by-tests false false c f = inr (unasked-few (awaitsOf (m .state .stage)) (stepOf p m b .reply) (quiet-step c f))
 
   asked-or-few : Asked m b ⊎ (length (stepOf p m b .reply) ≤ 1)
   asked-or-few = by-tests (completes m b) (refuses m b) refl refl
@@ -259,7 +244,7 @@ not-both Excess c f = impossible (cc)
 -- of one of them, not of both
 pub one-asked : (m : Machine) (b : ℕ) → completes m b ≡ true → refuses m b ≡ true → ⊥
 unfolding completes refuses
-one-asked m b c f = not-both (progressIn (m .state .stage) (heardWith m b)) c f
+one-asked m b c f = not-both (progressIn (awaitsOf (m .state .stage)) (heardWith m b)) c f
 
 pub feed-short : (p : Profile) (m : Machine) (bs : List ℕ) → length (feedOf p m bs .reply) ≤ 1030
 feed-short p m [] = rw feed-none (omega arith)

@@ -1,11 +1,10 @@
--- Each answer leaves a state that fits with nothing held, and an image of the same length. Assumes nothing.
+-- Each answer leaves a state that fits, with nothing held. Assumes nothing.
 use mathlib.Core.Bool.{Bool, true, false, cond}
 use mathlib.Core.List.{List, []}
 use mathlib.Core.Option.{none}
 use mathlib.Core.Path.{_≡_, refl}
 use Prim.Native.Nat.{ℕ}
 use native.Mathlib.Nat.{min-le-left}
-use lib.ListN.{length}
 use lib.Dec.{eqb}
 use Rattle.verdict.specs.declared.Verdict.{Verdict}
 use Rattle.verdict.specs.declared.Verdict.the-variants.{Granted, Refused}
@@ -15,11 +14,12 @@ use Rattle.profile.specs.declared.Profile.{Profile}
 use Rattle.profile.specs.Areas.{areasOf}
 use Rattle.profile_rules.specs.Sound.{Ascending}
 use Rattle.id_code.specs.Identity.{idOf, isNone, totalErase}
-use Rattle.flash.proofs.ByAddress.{erased-length, stored-length, blanked-length}
 use Rattle.profile_ranges.specs.declared.Purpose.the-variants.{Write as ToWrite, Read as ToRead}
 use Rattle.packet.specs.Packet.{progressOf}
 use Rattle.packet_fields.specs.declared.Com.{Com}
 use Rattle.packet_fields.specs.declared.Com.the-variants.{Inquiry, Erase, Write, Read, Authenticate, Baud, Signature, Area, Unknown}
+use Rattle.state.specs.declared.Awaited.{Awaited}
+use Rattle.state.specs.declared.Awaited.the-variants.{WakeUp, Packet}
 use Rattle.state.specs.declared.Pulse.{Pulse}
 use Rattle.state.specs.declared.Pulse.the-variants.{Zero, One, Acknowledged}
 use Rattle.state.specs.declared.Range.{Range}
@@ -30,38 +30,36 @@ use Rattle.state.specs.State.{freshState, windowOf}
 use Rattle.packet_fields.specs.Fields.{comOf, codeAt, infoCount, infoOf, sadOf, eadOf}
 use Rattle.check_command.specs.Commands.{commandChecks}
 use Rattle.check_transfer.specs.Transfer.{writeChecks, nextChecks}
-use Rattle.state.specs.Fits.{heldFits, stageFits}
+use Rattle.state.specs.Awaits.{awaitsOf, heldFits}
+use Rattle.state.specs.Fits.{stageFits}
 use Rattle.check_command.proofs.Granted.{granted-write, granted-read}
-use Rattle.check_transfer.proofs.WriteGranted.{write-most, write-units}
+use Rattle.check_transfer.proofs.WriteGranted.{write-any, write-most, write-units}
 use Rattle.answer.specs.Answer.{Answer}
 use Rattle.answer_command.specs.Grants.{spanOf, entered, grantOf, decided, answerCommand}
 use Rattle.answer_transfer.specs.Transfers.{readCount, readPacket, writeDecided, answerWrite, nextDecided, answerNext}
 use Rattle.answer_waking.specs.Wake.{awake, wakeOf}
-use Rattle.device_steps.specs.Step.{settled, endOf, refusedEarly}
+use Rattle.device_steps.specs.Step.{Machine, settled, earlyOf, refusedEarly, answerOf}
 use Rattle.device_steps.specs.Fits.{FitMachine}
-use Rattle.device_steps.proofs.Going.{Going, going-fits, spanned, read-after, write-after}
+use Rattle.device_steps.proofs.Going.{Going, going, going-fits, spanned, read-after, write-after}
 
 -- what holds of both sides of a test holds of the side that it picks
 pub either : {A : Type 0} (P : A → Type 0) (a b : A) (t : Bool) → P a → P b → P (cond t a b)
 either P a b true x y = x
 either P a b false x y = y
 
--- no stage minds that nothing is held
-pub empty-fits : (stage : Stage) → heldFits stage [] ≡ true
+-- nothing held fits whatever is awaited
+pub empty-fits : (awaited : Awaited) → heldFits awaited [] ≡ true
 unfolding heldFits progressOf
-empty-fits (Setting u) = refl
-empty-fits Authentication = refl
-empty-fits Command = refl
-empty-fits (Writing r) = refl
-empty-fits (Reading r) = refl
+empty-fits (WakeUp pulse) = refl
+empty-fits (Packet kind) = refl
 
 -- an answer after which the machine fits: nothing is held any more
 pub record Settles (p : Profile) (a : Answer) : Type 0 where
   pub none-held : a .state .held ≡ 0
   pub stage : stageFits (areasOf p) (windowOf p (a .state)) (a .state .stage) ≡ true
 
-pub settled-fits : (p : Profile) (a : Answer) → Settles p a → FitMachine p (settled a .machine)
-settled-fits p a s = record { count = s .none-held; held = empty-fits (a .state .stage); stage = s .stage }
+pub settled-fits : (p : Profile) (m : Machine) (bytes : List ℕ) (a : Answer) → Settles p a → FitMachine p (settled p m bytes a .machine)
+settled-fits p m bytes a s = record { count = s .none-held; held = empty-fits (awaitsOf (a .state .stage)); stage = s .stage }
 
 -- waking up
 pub wake-settles : (p : Profile) (image : List ℕ) (st : State) (u : Pulse) (b : ℕ) → Settles p (wakeOf p image st u b)
@@ -77,79 +75,26 @@ wake-settles p image st Acknowledged b =
     })
     (either (Settles p) _ _ (eqb b 0x00) (record { none-held = refl; stage = refl }) (record { none-held = refl; stage = refl }))
 
-pub wake-length : (p : Profile) (image : List ℕ) (st : State) (u : Pulse) (b : ℕ) → length (wakeOf p image st u b .image) ≡ length image
-unfolding wakeOf
-wake-length p image st Zero b = either (λ (a : Answer). length (a .image) ≡ length image) _ _ (eqb b 0x00) refl refl
-wake-length p image st One b = either (λ (a : Answer). length (a .image) ≡ length image) _ _ (eqb b 0x00) refl refl
-wake-length p image st Acknowledged b =
-    either (λ (a : Answer). length (a .image) ≡ length image) _ _ (eqb b 0x55) refl
-    (either (λ (a : Answer). length (a .image) ≡ length image) _ _ (eqb b 0x00) refl refl)
-
 -- a length outside its range ends a transfer
-pub early-settles : (p : Profile) (image : List ℕ) (st : State) → Settles p (refusedEarly image st)
+pub early-settles : (p : Profile) (st : State) → Settles p (refusedEarly st)
 unfolding stageFits
-early-settles p image st = record { none-held = refl; stage = ends (st .stage) }
+early-settles p st = record { none-held = refl; stage = ends (st .stage) }
   where
-    ends : (s : Stage) → stageFits (areasOf p) (windowOf p st) (endOf s) ≡ true
+    ends : (s : Stage) → stageFits (areasOf p) (windowOf p st) (earlyOf s .1) ≡ true
     ends (Setting u) = refl
     ends Authentication = refl
     ends Command = refl
     ends (Writing r) = refl
     ends (Reading r) = refl
 
--- the image after an answer is as long as before it
-module _ (p : Profile) (image : List ℕ) (st : State) where
-  abbrev Long : Answer → Type 0
-  Long a = length (a .image) ≡ length image
-
-  entered-length : (q : List ℕ) → Long (entered p image st q)
-  unfolding entered
-  entered-length q = either Long _ _ (totalErase (st .id) (infoOf q)) (blanked-length image) refl
-
-  grant-length : (q : List ℕ) (cmd : Com) → Long (grantOf p image st q cmd)
-  unfolding grantOf readPacket
-  grant-length q Inquiry = refl
-  grant-length q Erase = erased-length (areasOf p) (sadOf q) (eadOf q) image
-  grant-length q Write = refl
-  grant-length q Read = refl
-  grant-length q Authenticate = entered-length q
-  grant-length q Baud = refl
-  grant-length q Signature = refl
-  grant-length q Area = refl
-  grant-length q Unknown = refl
-
-  pub command-length : (q : List ℕ) → Long (answerCommand p image st q)
-  unfolding answerCommand decided
-  command-length q = go (verdictOf (firstFault (commandChecks p st q)))
-    where
-      go : (v : Verdict) → Long (decided p image st q v)
-      go Granted = grant-length q (comOf (codeAt q))
-      go (Refused reason) = refl
-
-  pub write-length : (r : Range) (q : List ℕ) → Long (answerWrite p image st r q)
-  unfolding answerWrite writeDecided
-  write-length r q = go (verdictOf (firstFault (writeChecks (areasOf p) image r q)))
-    where
-      go : (v : Verdict) → Long (writeDecided p image st r q v)
-      go Granted = stored-length (areasOf p) (r .next) (infoOf q) image
-      go (Refused reason) = refl
-
-  pub next-length : (r : Range) (q : List ℕ) → Long (answerNext p image st r q)
-  unfolding answerNext nextDecided readPacket
-  next-length r q = go (verdictOf (firstFault (nextChecks q)))
-    where
-      go : (v : Verdict) → Long (nextDecided p image st r v)
-      go Granted = refl
-      go (Refused reason) = refl
-
 -- what the answers of a device with an acceptable profile leave fits
 module _ (p : Profile) (areas-sound : Ascending 0 (areasOf p)) (image : List ℕ) (st : State) where
   read-settles : (r : Range) → Going (areasOf p) (windowOf p st) ToRead r → Settles p (readPacket p image st r)
   unfolding readPacket
   read-settles r g =
-      record { none-held = refl; stage = read-after (areasOf p) areas-sound (windowOf p st) r (readCount r) g (min-le-left (r .left) 1024) }
+      record { none-held = refl; stage = read-after (areasOf p) areas-sound (windowOf p st) r (readCount r) g (min-le-left (r .left) _) }
 
-  entered-settles : (q : List ℕ) → Settles p (entered p image st q)
+  entered-settles : (q : List ℕ) → Settles p (entered p st q)
   unfolding entered freshState stageFits
   entered-settles q =
       either (Settles p) _ _ (totalErase (st .id) (infoOf q)) (record { none-held = refl; stage = refl }) (record { none-held = refl; stage = refl })
@@ -186,14 +131,14 @@ module _ (p : Profile) (areas-sound : Ascending 0 (areasOf p)) (image : List ℕ
   unfolding answerWrite writeDecided stageFits
   write-settles r g q = go (verdictOf (firstFault (writeChecks (areasOf p) image r q))) refl
     where
-      go : (v : Verdict) → verdictOf (firstFault (writeChecks (areasOf p) image r q)) ≡ v → Settles p (writeDecided p image st r q v)
+      go : (v : Verdict) → verdictOf (firstFault (writeChecks (areasOf p) image r q)) ≡ v → Settles p (writeDecided st r q v)
       go Granted e =
           let c = granted-clear (firstFault (writeChecks (areasOf p) image r q)) e in
           record {
             none-held = refl;
             stage =
-                write-after (areasOf p) areas-sound (windowOf p st) r (infoCount q) g (write-units (areasOf p) image r q c)
-                (write-most (areasOf p) image r q c);
+                write-after (areasOf p) areas-sound (windowOf p st) r (infoCount q) g (write-any (areasOf p) image r q c)
+                (write-units (areasOf p) image r q c) (write-most (areasOf p) image r q c);
           }
       go (Refused reason) e = record { none-held = refl; stage = refl }
 
@@ -204,3 +149,15 @@ module _ (p : Profile) (areas-sound : Ascending 0 (areasOf p)) (image : List ℕ
       go : (v : Verdict) → Settles p (nextDecided p image st r v)
       go Granted = read-settles r g
       go (Refused reason) = record { none-held = refl; stage = refl }
+
+  -- whatever the stage awaits
+  pub answer-settles : stageFits (areasOf p) (windowOf p st) (st .stage) ≡ true → (q : List ℕ) → Settles p (answerOf p image st (st .stage) q)
+  unfolding stageFits
+  answer-settles fits q = go (st .stage) fits
+    where
+      go : (stage : Stage) → stageFits (areasOf p) (windowOf p st) stage ≡ true → Settles p (answerOf p image st stage q)
+      go (Setting u) e = command-settles fits q
+      go Authentication e = command-settles fits q
+      go Command e = command-settles fits q
+      go (Writing r) e = write-settles r (going (areasOf p) (windowOf p st) ToWrite r e) q
+      go (Reading r) e = next-settles r (going (areasOf p) (windowOf p st) ToRead r e) q

@@ -5,10 +5,11 @@ use lib.ListN.{length}
 use Rattle.profile.specs.declared.Profile.{Profile}
 use Rattle.profile.specs.Areas.{areasOf}
 use Rattle.state.specs.State.{windowOf}
-use Rattle.state.specs.Fits.{heldFits, stageFits}
+use Rattle.state.specs.Awaits.{awaitsOf, heldFits}
+use Rattle.state.specs.Fits.{stageFits}
 use Rattle.device_steps.specs.Step.{Machine}
 
 pub record FitMachine (p : Profile) (m : Machine) : Type 0 where
   pub count : m .state .held ≡ length (m .held)
-  pub held : heldFits (m .state .stage) (m .held) ≡ true
+  pub held : heldFits (awaitsOf (m .state .stage)) (m .held) ≡ true
   pub stage : stageFits (areasOf p) (windowOf p (m .state)) (m .state .stage) ≡ true

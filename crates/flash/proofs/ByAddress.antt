@@ -4,7 +4,7 @@ use mathlib.Core.List.{List, [], _∷_}
 use mathlib.Core.Logic.{_⊎_, inl, inr, ⊎-elim}
 use mathlib.Core.Path.{_≡_, refl, ap, subst, _∙_}
 use Prim.Native.Nat.{ℕ, _+_, _-_, _≤_, _<_, min}
-use native.Mathlib.Nat.{min-eq-left, min-le-left, lt-of-lt-of-le}
+use native.Mathlib.Nat.{min-le-left, lt-of-lt-of-le}
 use native.Mathlib.Omega.{arith}
 use lib.ListN.{length, take, drop, getD, length-append, length-take, length-drop, length-replicate, getD-replicate, List·getD-append}
 use lib.Seq.{length-take-le, getD-take, getD-drop}
@@ -151,28 +151,40 @@ blanked-length image = length-replicate (length image) 0xFF
 
 -- a fetch from an address whose place is found
 module _ (areas : List Area) (x n : ℕ) (image : List ℕ) (spot : Spot) (p : placeOf areas x ≡ In spot) where
-  fetched-is : fetched areas x n image ≡ take (min n (spot .area .ead + 1 - x)) (drop (offsetIn spot x) image)
+  fetched-is : fetched areas x n image ≡ take n (drop (offsetIn spot x) image)
   unfolding fetched fetchedAt
   fetched-is = ap (λ (q : Place). fetchedAt q x n image) p
 
   -- each byte is the image's, at the place of its address
   pub fetched-at : (k d : ℕ) → k < length (fetched areas x n image) → getD (fetched areas x n image) k d ≡ getD image (offsetIn spot x + k) d
   fetched-at k d h =
-      let m = min n (spot .area .ead + 1 - x) in
       let l = drop (offsetIn spot x) image in
-      let i : k < min m (length l) = subst (λ (c : ℕ). k < c) (ap length fetched-is ∙ length-take m l) h in
+      let i : k < min n (length l) = subst (λ (c : ℕ). k < c) (ap length fetched-is ∙ length-take n l) h in
       ap (λ (q : List ℕ). getD q k d) fetched-is
-      ∙ getD-take m l k d (lt-of-lt-of-le i (min-le-left m (length l)))
+      ∙ getD-take n l k d (lt-of-lt-of-le i (min-le-left n (length l)))
       ∙ getD-drop (offsetIn spot x) image k d
 
-  -- there are as many as were asked for, where the area and the image go so far
-  pub fetched-length : n ≤ spot .area .ead + 1 - x → offsetIn spot x + n ≤ length image → length (fetched areas x n image) ≡ n
-  fetched-length h i =
+  -- there are as many as were asked for, where the image goes so far
+  pub fetched-length : offsetIn spot x + n ≤ length image → length (fetched areas x n image) ≡ n
+  fetched-length h =
       let j : n ≤ length (drop (offsetIn spot x) image) = rw length-drop (omega arith) in
-      ap length fetched-is
-      ∙ ap (λ (m : ℕ). length (take m (drop (offsetIn spot x) image))) (min-eq-left h)
-      ∙ length-take-le n (drop (offsetIn spot x) image) j
+      ap length fetched-is ∙ length-take-le n (drop (offsetIn spot x) image) j
+
+  -- where the area has so many left, its end makes no difference
+  pub fetched-within : x + n ≤ spot .area .ead + 1 → fetched areas x n image ≡ take (min n (spot .area .ead + 1 - x)) (drop (offsetIn spot x) image)
+  fetched-within h =
+      let e : n ≡ min n (spot .area .ead + 1 - x) = omega arith in
+      fetched-is ∙ ap (λ (m : ℕ). take m (drop (offsetIn spot x) image)) e
 
 pub fetched-nowhere : (areas : List Area) (x n : ℕ) (image : List ℕ) → placeOf areas x ≡ Nowhere → fetched areas x n image ≡ []
 unfolding fetched fetchedAt
 fetched-nowhere areas x n image p = ap (λ (q : Place). fetchedAt q x n image) p
+
+-- wherever it starts, a fetch gives no more bytes than were asked for
+pub fetched-most : (areas : List Area) (x n : ℕ) (image : List ℕ) → length (fetched areas x n image) ≤ n
+unfolding fetched fetchedAt
+fetched-most areas x n image = by-place (placeOf areas x)
+  where
+    by-place : (place : Place) → length (fetchedAt place x n image) ≤ n
+    by-place Nowhere = omega arith
+    by-place (In spot) = rw length-take (omega arith)

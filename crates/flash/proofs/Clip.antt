@@ -24,7 +24,7 @@ take-most m l =
     ap (λ (k : ℕ). take k l) (min-eq-right h) ∙ take-all (length l) l (omega arith) ∙ sym (take-all m l h))
     (below m (length l))
 
-pub clipped : (image : List ℕ) (at m from : ℕ) → from ≡ min at (length image)
+clipped : (image : List ℕ) (at m from : ℕ) → from ≡ min at (length image)
     → take (from + min m (length image - from) - from) (drop from image) ≡ take m (drop at image)
 clipped image at m from e =
     let c : from + min m (length image - from) - from ≡ min m (length image - from) = omega arith in
@@ -41,17 +41,11 @@ clipped image at m from e =
         drop-of-length-le image w ∙ sym (drop-of-length-le image h))
         (below at (length image))
 
--- an inclusive end
-inclusive : (x e : ℕ) → x ≤ e → e - x + 1 ≡ e + 1 - x
-inclusive x e h = omega arith
-
 -- the bytes from an address of a spot's area on
-pub fetch-part : (spot : Spot) (x n : ℕ) (image : List ℕ) (from m c : ℕ) → x ≤ spot .area .ead
-    → from ≡ min (offsetIn spot x) (length image) → m ≡ min n (spot .area .ead - x + 1) → c ≡ min m (length image - from)
+pub fetch-part : (spot : Spot) (x n : ℕ) (image : List ℕ) (from c : ℕ) → from ≡ min (offsetIn spot x) (length image) → c ≡ min n (length image - from)
     → take (from + c - from) (drop from image) ≡ fetchedAt (In spot) x n image
 unfolding fetchedAt
-fetch-part spot x n image from m c h ef em ec =
-    rw ec (clipped image (offsetIn spot x) m from ef) ∙ ap (λ (k : ℕ). take k (drop (offsetIn spot x) image)) (em ∙ ap (min n) (inclusive x (spot .area .ead) h))
+fetch-part spot x n image from c ef ec = rw ec (clipped image (offsetIn spot x) n from ef)
 
 -- the bytes from an address on, where its place is known
 pub fetched-as : (areas : List Area) (x n : ℕ) (image : List ℕ) (found p : Place) → found ≡ placeOf areas x → found ≡ p

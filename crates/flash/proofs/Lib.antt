@@ -1,8 +1,10 @@
 pub mod Along
+pub mod Beyond
 pub mod ByAddress
 pub mod Clip
 pub mod Lists
 pub mod Meets
+pub mod Performed
 pub mod Pour
 pub mod Walk
 pub mod Writes

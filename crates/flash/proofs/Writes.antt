@@ -58,8 +58,8 @@ early sad base s lo k sk e h i g = omega arith
 start : (sad base s lo : ℕ) → base < lo → s ≤ sad + (lo - base) → sad + (lo - 1 - base) < s → sad + (lo - base) ≡ s
 start sad base s lo h i g = omega arith
 
-none : (sad s len sk : ℕ) → sk ≡ min (sad - s) len → sad ≤ s → sk ≡ 0
-none sad s len sk e h = omega arith
+none-below : (sad s len sk : ℕ) → sk ≡ min (sad - s) len → sad ≤ s → sk ≡ 0
+none-below sad s len sk e h = omega arith
 
 last-fits : (x s len sk lo hi : ℕ) → lo < hi → sk + (hi - 1 - lo) ≡ x - s → s ≤ x → x < s + len → sk + (hi - lo) ≤ len
 last-fits x s len sk lo hi w e h i = omega arith
@@ -75,7 +75,7 @@ module _ (a : Area) (base n s len lo hi sk : ℕ) (m : Meets a base n s (s + len
       (λ (g : base < lo).
       let u = m .under (lo - 1) (omega arith) (omega arith) in
       let q = start (a .sad) base s lo g (r .0) u in
-      late (a .sad) base s lo k sk (none (a .sad) s len sk e (omega arith)) (b .0) h q)
+      late (a .sad) base s lo k sk (none-below (a .sad) s len sk e (omega arith)) (b .0) h q)
       (λ (g : lo ≤ base).
       early (a .sad) base s lo k sk (omega arith) (omega arith) (omega arith) h)
       (below base lo)

@@ -1,7 +1,7 @@
 -- The effects on the flash, by address: device and replay share them, and nothing else changes a byte.
-use mathlib.Core.Bool.{Bool, true, false, _&&_, cond}
+use mathlib.Core.Bool.{Bool, _&&_, cond}
 use mathlib.Core.List.{List, [], _∷_, _++_}
-use Prim.Native.Nat.{ℕ, _+_, _-_, min}
+use Prim.Native.Nat.{ℕ, _+_, _-_}
 use lib.ListN.{length, take, drop, getD, replicate}
 use lib.Dec.{leb, ltb}
 use Rattle.profile.specs.declared.Area.{Area}
@@ -46,10 +46,10 @@ erased areas s e image = changed (erasing s e) areas image
 unfoldable pub blanked : List ℕ → List ℕ
 blanked image = replicate (length image) 0xFF
 
--- up to n bytes from address x on, as far as its area and the image go
+-- up to n bytes from address x on, as far as the image goes
 unfoldable pub fetchedAt : Place → ℕ → ℕ → List ℕ → List ℕ
 fetchedAt Nowhere x n image = []
-fetchedAt (In spot) x n image = take (min n (spot .area .ead + 1 - x)) (drop (offsetIn spot x) image)
+fetchedAt (In spot) x n image = take n (drop (offsetIn spot x) image)
 
 unfoldable pub fetched : List Area → ℕ → ℕ → List ℕ → List ℕ
 fetched areas x n image = fetchedAt (placeOf areas x) x n image

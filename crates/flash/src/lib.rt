@@ -1,16 +1,28 @@
-// The effects on the image that a caller lends: each byte goes where its address lies, and no other byte changes.
+// Acts on the image that a caller lends: each byte goes where its address lies, and no other byte changes.
 ghost use mathlib.Core.Path.{_≡_};
 ghost use Prim.Native.Nat.{_+_, _-_, _≤_, min};
 ghost use lib.ListN.{length, replicate};
 ghost use Rattle.profile.specs.Areas.{areasOf};
 ghost use Rattle.profile.specs.declared.Place.the-variants.{In};
 ghost use Rattle.flash.specs.Effects.{erased, stored, blanked, fetched, fetchedAt};
+ghost use Rattle.flash.specs.Acts.{performed};
 ghost use Rattle.flash.specs.Meets.{bytesBelow, Meets};
 use numbers::lower;
 use profile::Area;
 use profile::Place;
 use profile::Profile;
 use profile::Spot;
+
+// What an answer does to the flash.
+pub enum Act {
+    Nothing,
+    // SAD to EAD, both inclusive, becomes FFh
+    EraseRange(u32, u32),
+    // every byte becomes FFh
+    EraseAll,
+    // so many of the packet's data bytes go to the addresses from this one on
+    Store(usize, usize),
+}
 
 // A part of the image, by places in it.
 struct Part {
@@ -106,20 +118,36 @@ pub fn store(image: &mut [u8], profile: Profile, address: u32, bytes: &[u8])
     }
 }
 
-// Up to `count` bytes from an address of a spot's area on, as far as the area and the image go.
+// Up to `count` bytes from an address of a spot's area on, as far as the image goes.
 fn fetch_at(image: &[u8], spot: Spot, address: u32, count: usize) -> &[u8]
     requires { ⌜ (spot .area .sad ≤ address) × (address ≤ spot .area .ead) × (spot .base ≤ 34359738368) ⌝ }
     ensures { λ r. ⌜ now r ≡ fetchedAt (In spot) address count (now (image .entry)) ⌝ }
 {
     let area = spot.area;
     let offset = (address - area.sad) as usize;
-    let left = (area.ead - address) as usize + 1;
     let from = lower(spot.base + offset, image.len());
-    let to = from + lower(lower(count, left), image.len() - from);
+    let to = from + lower(count, image.len() - from);
     &image[from..to]
 }
 
-// Up to `count` bytes from an address on, as far as its area goes: a part of the image.
+// Performs an act; `bytes` are the data bytes of the packet that was answered. No area has an address from 2^32 on.
+pub fn perform(image: &mut [u8], profile: Profile, act: Act, bytes: &[u8])
+    ensures { λ _. ⌜ now (image .exit) ≡ performed (areasOf profile) act (now (bytes .entry)) (now (image .entry)) ⌝ }
+{
+    match act {
+        Act::Nothing => {}
+        Act::EraseRange(sad, ead) => erase(image, profile, sad, ead),
+        Act::EraseAll => erase_all(image),
+        Act::Store(address, count) => {
+            if address <= 0xFFFF_FFFF {
+                let n = lower(count, bytes.len());
+                store(image, profile, address as u32, &bytes[..n]);
+            }
+        }
+    }
+}
+
+// Up to `count` bytes from an address on, as far as the image goes: a part of it.
 pub fn fetch(image: &[u8], profile: Profile, address: u32, count: usize) -> &[u8]
     ensures { λ r. ⌜ now r ≡ fetched (areasOf profile) address count (now (image .entry)) ⌝ }
 {

@@ -1,7 +1,7 @@
--- Which row refuses a call from outside: the profile's length, then the rows of starting, then the state's. Assumes nothing.
+-- Which row refuses a call from outside: those of starting, then the state's. Assumes nothing.
 use mathlib.Core.Bool.{true, false, not}
 use mathlib.Core.List.{List, [], _∷_, _++_}
-use mathlib.Core.Path.{_≡_, refl, sym, ap, _∙_}
+use mathlib.Core.Path.{_≡_, sym, ap, _∙_}
 use Prim.Native.Nat.{ℕ}
 use native.Mathlib.Omega.{arith}
 use lib.ListN.{length}
@@ -10,127 +10,86 @@ use borrow.Author.Tests.{eqb-true, not-false, eq-eqb, ne-eqb}
 use Rattle.verdict.specs.Check.{Check, _gives_, firstFault, NoneApplies}
 use Rattle.verdict.proofs.FirstFault.{clear, clear-right}
 use Rattle.profile.specs.declared.Profile.{Profile}
-use Rattle.state.specs.declared.Stage.{Stage}
-use Rattle.state.specs.declared.State.{State}
+use Rattle.profile_rules.specs.Rules.{headChecks, profileChecks}
+use Rattle.profile_bytes.specs.Profile.{profileLength, profileIn}
 use Rattle.state_bytes.specs.declared.StageIn.{StageIn}
-use Rattle.state_bytes.specs.declared.StageIn.the-variants.{Is, NoStage}
-use Rattle.profile_bytes.specs.Profile.{profileIn}
-use Rattle.profile_bytes.specs.Rows.{profileRows}
-use Rattle.profile_bytes.proofs.RowLaws.{no-profile, is-profile}
-use Rattle.state_bytes.specs.State.{stateWith, stateBy, stageIn}
+use Rattle.state_bytes.specs.declared.StageIn.the-variants.{NoStage}
+use Rattle.state_bytes.specs.State.{stateLength, stateBy, stageIn}
+use Rattle.state.specs.State.{zeroState}
+use Rattle.device_calls.specs.declared.Row.{Row}
+use Rattle.device_calls.specs.declared.Row.the-variants.{Unacceptable, WrongState}
 use Rattle.device_calls.specs.declared.Refusal.{Refusal}
-use Rattle.device_calls.specs.declared.Refusal.the-variants.{Accepted, Unacceptable, WrongImage, WrongState, ShortReceive, ShortReply}
+use Rattle.device_calls.specs.declared.Refusal.the-variants.{Accepted, By}
 use Rattle.device_calls.specs.declared.Started.{Started}
-use Rattle.device_calls.specs.Calls.{numberOf, isAccepted, startRows, bufferRows, feedRows, refusalOf, startedBy}
-use Rattle.device_calls.proofs.Rows.{is-accepted, Refusing, start-refusing, none-found, accepts, goes-on, stops}
-use Rattle.interface.specs.Calls.{startingRows, stateRows, feedingRows, startRefusal, feedRefusal}
+use Rattle.device_calls.specs.Calls.{isAccepted, startRows, refusalOf, startRefusal, startedBy}
+use Rattle.device_calls.proofs.Rows.{is-accepted, no-row, goes-on, stops}
+use Rattle.interface.specs.Calls.{LentBytes, startingRows, stateRows, feedingRows, startingRefusal, feedingRefusal}
 
--- the number 0 is that of an accepted call
-numbered : (row : Refusal) → numberOf row ≡ 0 → isAccepted row ≡ true
-numbered Accepted e = refl
-numbered Unacceptable e = absurd (omega (arith, e))
-numbered WrongImage e = absurd (omega (arith, e))
-numbered WrongState e = absurd (omega (arith, e))
-numbered ShortReceive e = absurd (omega (arith, e))
-numbered ShortReply e = absurd (omega (arith, e))
+-- bytes of another length than a profile's are refused with 4 in each call: a replay, which the device's rows of starting
+-- refuse; starting and resetting; feeding
+module _ (profile : List ℕ) (h : length profile ≡ profileLength → ⊥) where
+  pub no-profile : (n : ℕ) → startRefusal (profileIn profile) n ≡ By Unacceptable
+  unfolding firstFault startRows profileChecks headChecks profileIn
+  no-profile n = simp (ne-eqb (length profile) profileLength h)
 
-unnumbered : (row : Refusal) → (numberOf row ≡ 0 → ⊥) → isAccepted row ≡ false
-unnumbered Accepted h = absurd (h refl)
-unnumbered Unacceptable h = refl
-unnumbered WrongImage h = refl
-unnumbered WrongState h = refl
-unnumbered ShortReceive h = refl
-unnumbered ShortReply h = refl
+  pub starting-no-profile : (n k : ℕ) → startingRefusal profile n k ≡ By Unacceptable
+  unfolding startingRows
+  starting-no-profile n k = stops (startRows (profileIn profile) n) _ (ap isAccepted (no-profile n)) ∙ no-profile n
 
-unaccepted : (row : Refusal) → (row ≡ Accepted → ⊥) → isAccepted row ≡ false
-unaccepted Accepted h = absurd (h refl)
-unaccepted Unacceptable h = refl
-unaccepted WrongImage h = refl
-unaccepted WrongState h = refl
-unaccepted ShortReceive h = refl
-unaccepted ShortReply h = refl
+  pub feeding-no-profile : (l : LentBytes) → feedingRefusal profile l ≡ By Unacceptable
+  unfolding feedingRows
+  feeding-no-profile l =
+      let n = length (l .image) in
+      stops (startRows (profileIn profile) n) _ (ap isAccepted (no-profile n)) ∙ no-profile n
 
 -- starting and resetting, with k bytes for the state
 module _ (profile : List ℕ) (n k : ℕ) where
-  pub begin-no-profile : (length profile ≡ 156 → ⊥) → Unacceptable ≡ startRefusal profile n k
-  unfolding startingRows
-  begin-no-profile h = sym (no-profile profile n ((not (eqb k 33) gives WrongState) ∷ []) h)
+  abbrev roomRows : List (Check Row)
+  roomRows = (not (eqb k stateLength) gives WrongState) ∷ []
 
-  starting-refusing : Refusing (startingRows profile n k)
-  unfolding Refusing startingRows profileRows startRows
-  starting-refusing = (refl, (refl, (refl, (refl, tt))))
-
-  -- an accepted call has 33 bytes for it
-  pub accepted-room : startRefusal profile n k ≡ Accepted → k ≡ 33
+  -- an accepted call has room for a state
+  pub accepted-room : startingRefusal profile n k ≡ Accepted → k ≡ stateLength
   unfolding startingRows NoneApplies
   accepted-room e =
-      let f = none-found (startingRows profile n k) starting-refusing (accepts _ e) in
-      let c = clear ((not (eqb k 33) gives WrongState) ∷ []) (clear-right (profileRows profile n) ((not (eqb k 33) gives WrongState) ∷ []) f) in
-      eqb-true k 33 (not-false (eqb k 33) (c .0))
+      let c = clear roomRows (clear-right (startRows (profileIn profile) n) roomRows (no-row _ e)) in
+      eqb-true k stateLength (not-false (eqb k stateLength) (c .0))
 
-  -- what the device's start answers, and the number of its refusal
-  module _ (h : length profile ≡ 156) (p : Profile) (q : p ≡ profileIn profile)
-      (begun : Started) (e : begun ≡ startedBy (refusalOf (firstFault (startRows p n))) p)
-      (number : ℕ) (m : number ≡ numberOf (begun .refusal)) where
-    abbrev first : Refusal
-    first = refusalOf (firstFault (startRows (profileIn profile) n))
+  -- what the device's start answers
+  module _ (p : Profile) (q : p ≡ profileIn profile) (begun : Started) (e : begun ≡ startedBy (startRefusal p n) p zeroState) where
+    begins : begun ≡ startedBy (startRefusal (profileIn profile) n) (profileIn profile) zeroState
+    begins = e ∙ ap (λ (x : Profile). startedBy (startRefusal x n) x zeroState) q
 
-    begins : begun ≡ startedBy first (profileIn profile)
-    begins = e ∙ ap (λ (x : Profile). startedBy (refusalOf (firstFault (startRows x n))) x) q
+    first : begun .refusal ≡ startRefusal (profileIn profile) n
+    first = ap (λ (x : Started). x .refusal) begins
 
-    told : number ≡ numberOf first
-    told = m ∙ ap (λ (x : Started). numberOf (x .refusal)) begins
+    answered : startRefusal (profileIn profile) n ≡ startingRefusal profile n k → begun ≡ startedBy (startingRefusal profile n k) (profileIn profile) zeroState
+    answered same = begins ∙ ap (λ (row : Refusal). startedBy row (profileIn profile) zeroState) same
 
-    -- refused by the device
-    pub begin-refused : (number ≡ 0 → ⊥) → begun ≡ startedBy (startRefusal profile n k) (profileIn profile)
+    pub begin-refused : isAccepted (begun .refusal) ≡ false → begun ≡ startedBy (startingRefusal profile n k) (profileIn profile) zeroState
     unfolding startingRows
-    begin-refused z =
-        let rows : List (Check Refusal) = (not (eqb k 33) gives WrongState) ∷ [] in
-        let same : startRefusal profile n k ≡ first =
-        is-profile profile n rows h ∙ stops (startRows (profileIn profile) n) rows (unnumbered first (λ y. z (told ∙ y))) in
-        begins ∙ ap (λ (row : Refusal). startedBy row (profileIn profile)) (sym same)
+    begin-refused f = answered (sym (stops (startRows (profileIn profile) n) roomRows (ap isAccepted (sym first) ∙ f)))
 
-    module _ (z : number ≡ 0) where
-      goes : startRefusal profile n k ≡ refusalOf (firstFault ((not (eqb k 33) gives WrongState) ∷ []))
+    module _ (t : isAccepted (begun .refusal) ≡ true) where
+      goes : startingRefusal profile n k ≡ refusalOf (firstFault roomRows)
       unfolding startingRows
-      goes =
-          let rows : List (Check Refusal) = (not (eqb k 33) gives WrongState) ∷ [] in
-          is-profile profile n rows h
-          ∙ goes-on (startRows (profileIn profile) n) rows (start-refusing (profileIn profile) n) (numbered first (sym told ∙ z))
+      goes = goes-on (startRows (profileIn profile) n) roomRows (ap isAccepted (sym first) ∙ t)
 
-      pub begin-no-room : (k ≡ 33 → ⊥) → WrongState ≡ startRefusal profile n k
+      pub begin-no-room : (k ≡ stateLength → ⊥) → By WrongState ≡ startingRefusal profile n k
       unfolding firstFault
-      begin-no-room j = let t = ne-eqb k 33 j in sym (goes ∙ simp t)
+      begin-no-room j = let f = ne-eqb k stateLength j in sym (goes ∙ simp f)
 
-      pub begin-accepted : k ≡ 33 → begun ≡ startedBy (startRefusal profile n k) (profileIn profile)
+      pub begin-accepted : k ≡ stateLength → begun ≡ startedBy (startingRefusal profile n k) (profileIn profile) zeroState
       unfolding firstFault
       begin-accepted j =
-          let t = eq-eqb k 33 j in
-          let same : startRefusal profile n k ≡ Accepted = goes ∙ simp t in
-          begins ∙ ap (λ (row : Refusal). startedBy row (profileIn profile)) (is-accepted first (numbered first (sym told ∙ z)) ∙ sym same)
+          let r = eq-eqb k stateLength j in
+          let same : startingRefusal profile n k ≡ Accepted = goes ∙ simp r in
+          answered (sym first ∙ is-accepted (begun .refusal) t ∙ sym same)
 
--- feeding, for bytes that are no profile, no state, or both
-module _ (profile : List ℕ) (n : ℕ) (state receive : List ℕ) (room : ℕ) where
-  pub feed-no-profile : (length profile ≡ 156 → ⊥) → feedRefusal profile n state receive room ≡ Unacceptable
-  unfolding feedingRows
-  feed-no-profile h = no-profile profile n (stateRows (profileIn profile) (stateBy state (stageIn state)) receive room) h
+-- feeding bytes that are no state is refused as a start with no bytes for it, which is never accepted
+pub feed-no-state : (profile : List ℕ) (l : LentBytes) → stageIn (l .state) ≡ NoStage → feedingRefusal profile l ≡ startingRefusal profile (length (l .image)) 0
+unfolding feedingRows startingRows
+feed-no-state profile l e =
+    ap (λ (s : StageIn). refusalOf (firstFault (startRows (profileIn profile) (length (l .image)) ++ stateRows (profileIn profile) (stateBy (l .state) s) (l .receive) (length (l .reply))))) e
 
-  -- no state: a start with no bytes for it is refused alike
-  pub feed-no-state : stageIn state ≡ NoStage → feedRefusal profile n state receive room ≡ startRefusal profile n 0
-  unfolding feedingRows startingRows
-  feed-no-state e =
-      ap (λ (s : StageIn). refusalOf (firstFault (profileRows profile n ++ stateRows (profileIn profile) (stateBy state s) receive room))) e
-
-  pub feed-both : length profile ≡ 156 → (p : Profile) → p ≡ profileIn profile → (stage : Stage) → stageIn state ≡ Is stage
-      → (st : State) → st ≡ stateWith state stage
-      → refusalOf (firstFault (feedRows p n st receive room)) ≡ feedRefusal profile n state receive room
-  unfolding feedingRows feedRows
-  feed-both h p q stage e st f =
-      ap (λ (x : Profile). refusalOf (firstFault (startRows x n ++ bufferRows x st receive room))) q
-      ∙ ap (λ (x : State). refusalOf (firstFault (startRows (profileIn profile) n ++ bufferRows (profileIn profile) x receive room))) f
-      ∙ sym (is-profile profile n (bufferRows (profileIn profile) (stateWith state stage) receive room) h)
-      ∙ sym (ap (λ (s : StageIn). refusalOf (firstFault (profileRows profile n ++ stateRows (profileIn profile) (stateBy state s) receive room))) e)
-
--- a start with no bytes for the state is refused
-pub nowhere-refused : (profile : List ℕ) (n : ℕ) → isAccepted (startRefusal profile n 0) ≡ false
-nowhere-refused profile n = unaccepted (startRefusal profile n 0) (λ e. omega (arith, accepted-room profile n 0 e))
+pub nowhere-refused : (profile : List ℕ) (n : ℕ) → startingRefusal profile n 0 ≡ Accepted → ⊥
+nowhere-refused profile n e = omega (arith, accepted-room profile n 0 e)

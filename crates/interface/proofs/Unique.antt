@@ -11,83 +11,60 @@ use Rattle.verdict.proofs.OneAnswer.{one-answer}
 use Rattle.packet.specs.Packet.{good, payloadOf}
 use Rattle.packet.proofs.Contents.{payload-short, payload-none, payload-part}
 use Rattle.device_calls.specs.declared.Refusal.{Refusal}
-use Rattle.device_calls.specs.declared.Refusal.the-variants.{Accepted, Unacceptable, WrongImage, WrongState, ShortReceive, ShortReply}
+use Rattle.device_calls.specs.declared.Refusal.the-variants.{Accepted, By}
 use Rattle.device_calls.specs.Calls.{isAccepted}
 use Rattle.device_steps.specs.Feed.{Delivery}
-use Rattle.interface.specs.Post.{Started, WasReset, Ran, Unfed, FedBy, Handed}
+use Rattle.interface.specs.Calls.{LentBytes}
+use Rattle.interface.specs.Post.{Numbers, StartedBytes, ResetBytes, FedBytes, Handed}
 
 -- starting and resetting: the same number and the same bytes
 module _ (profile : List ℕ) (n : ℕ) (before after after′ : List ℕ) (r r′ : ℕ) where
-  pub started-once : Started profile n before after r → Started profile n before after′ r′ → (r ≡ r′) × (after ≡ after′)
+  pub started-once : StartedBytes profile n before after r → StartedBytes profile n before after′ r′ → (r ≡ r′) × (after ≡ after′)
   started-once a b = (one-answer (a .number) (b .number), one-answer (a .state) (b .state))
 
-  pub reset-once : WasReset profile n before after r → WasReset profile n before after′ r′ → (r ≡ r′) × (after ≡ after′)
+  pub reset-once : ResetBytes profile n before after r → ResetBytes profile n before after′ r′ → (r ≡ r′) × (after ≡ after′)
   reset-once a b = (one-answer (a .number) (b .number), one-answer (a .state) (b .state))
 
 -- what two outcomes of a feed have in common: all but the received bytes beyond the held ones
-pub record Same (d : Delivery) (im im′ st st′ rc rc′ rp rp′ : List ℕ) (r r′ used used′ got got′ : ℕ) : Type 0 where
-  pub number : r ≡ r′
-  pub state : st ≡ st′
-  pub image : im ≡ im′
-  pub held : take (d .machine .state .held) rc ≡ take (d .machine .state .held) rc′
-  pub reply : rp ≡ rp′
-  pub consumed : used ≡ used′
-  pub count : got ≡ got′
+pub record Same (d : Delivery) (after after′ : LentBytes) (r r′ : Numbers) : Type 0 where
+  pub numbers : r ≡ r′
+  pub state : after .state ≡ after′ .state
+  pub image : after .image ≡ after′ .image
+  pub held : take (d .machine .state .held) (after .receive) ≡ take (d .machine .state .held) (after′ .receive)
+  pub reply : after .reply ≡ after′ .reply
 
 -- feeding, for the same bytes at entry
-module _ (d : Delivery) (input im₀ im im′ st₀ st st′ rc₀ rc rc′ rp₀ rp rp′ : List ℕ) (r r′ used used′ got got′ : ℕ) where
-  ran-once : Ran d input im st rc₀ rc rp₀ rp r used got → Ran d input im′ st′ rc₀ rc′ rp₀ rp′ r′ used′ got′
-      → Same d im im′ st st′ rc rc′ rp rp′ r r′ used used′ got got′
-  ran-once a b =
+module _ (d : Delivery) (input : List ℕ) (before : LentBytes) where
+  pub fed-once : (row : Refusal) (after after′ : LentBytes) (r r′ : Numbers) → FedBytes row d input before after r → FedBytes row d input before after′ r′
+      → Same d after after′ r r′
+  fed-once Accepted after after′ r r′ a b =
       record {
-        number = one-answer (a .number) (b .number);
+        numbers = one-answer (a .is) (b .is);
         state = one-answer (a .state) (b .state);
         image = one-answer (a .image) (b .image);
         held = one-answer (a .held) (b .held);
         reply = one-answer (a .reply) (b .reply);
-        consumed = one-answer (a .consumed) (b .consumed);
-        count = one-answer (a .count) (b .count);
       }
-
-  unfed-once : {row : Refusal} → Unfed row im₀ im st₀ st rc₀ rc rp₀ rp r used got → Unfed row im₀ im′ st₀ st′ rc₀ rc′ rp₀ rp′ r′ used′ got′
-      → Same d im im′ st st′ rc rc′ rp rp′ r r′ used used′ got got′
-  unfed-once a b =
+  fed-once (By row) after after′ r r′ a b =
+      let e : after ≡ after′ = one-answer (a .lent) (b .lent) in
       record {
-        number = one-answer (a .number) (b .number);
-        state = one-answer (a .state) (b .state);
-        image = one-answer (a .image) (b .image);
-        held = ap (take (d .machine .state .held)) (one-answer (a .receive) (b .receive));
-        reply = one-answer (a .reply) (b .reply);
-        consumed = one-answer (a .consumed) (b .consumed);
-        count = one-answer (a .count) (b .count);
+        numbers = one-answer (a .is) (b .is);
+        state = ap (λ (l : LentBytes). l .state) e;
+        image = ap (λ (l : LentBytes). l .image) e;
+        held = ap (λ (l : LentBytes). take (d .machine .state .held) (l .receive)) e;
+        reply = ap (λ (l : LentBytes). l .reply) e;
       }
 
-  pub fed-once : (row : Refusal) → FedBy row d input im₀ im st₀ st rc₀ rc rp₀ rp r used got
-      → FedBy row d input im₀ im′ st₀ st′ rc₀ rc′ rp₀ rp′ r′ used′ got′ → Same d im im′ st st′ rc rc′ rp rp′ r r′ used used′ got got′
-  fed-once Accepted a b = ran-once a b
-  fed-once Unacceptable a b = unfed-once a b
-  fed-once WrongImage a b = unfed-once a b
-  fed-once WrongState a b = unfed-once a b
-  fed-once ShortReceive a b = unfed-once a b
-  fed-once ShortReply a b = unfed-once a b
+  -- a refused feed leaves the whole receive buffer, and so does empty input
+  pub refused-received : (row : Refusal) (after : LentBytes) (r : Numbers) → isAccepted row ≡ false → FedBytes row d input before after r
+      → after .receive ≡ before .receive
+  refused-received Accepted after r e a = let z : _≡_ {A = ℕ} 0 1 = cc in absurd (omega arith)
+  refused-received (By row) after r e a = ap (λ (l : LentBytes). l .receive) (a .lent)
 
--- a refused feed leaves the whole receive buffer, and so does empty input
-module _ (d : Delivery) (input im₀ im st₀ st rc₀ rc rp₀ rp : List ℕ) (r used got : ℕ) where
-  pub refused-received : (row : Refusal) → isAccepted row ≡ false → FedBy row d input im₀ im st₀ st rc₀ rc rp₀ rp r used got → rc ≡ rc₀
-  refused-received Accepted e a = let z : _≡_ {A = ℕ} 0 1 = cc in absurd (omega arith)
-  refused-received Unacceptable e a = a .receive
-  refused-received WrongImage e a = a .receive
-  refused-received WrongState e a = a .receive
-  refused-received ShortReceive e a = a .receive
-  refused-received ShortReply e a = a .receive
-
-  pub idle-received : (row : Refusal) → length input ≡ 0 → FedBy row d input im₀ im st₀ st rc₀ rc rp₀ rp r used got → rc ≡ rc₀
-  idle-received Accepted e a = a .idle e
-  idle-received Unacceptable e a = a .receive
-  idle-received WrongImage e a = a .receive
-  idle-received WrongState e a = a .receive
-  idle-received ShortReceive e a = a .receive
-  idle-received ShortReply e a = a .receive
+  pub idle-received : (row : Refusal) (after : LentBytes) (r : Numbers) → length input ≡ 0 → FedBytes row d input before after r
+      → after .receive ≡ before .receive
+  idle-received Accepted after r e a = a .idle e
+  idle-received (By row) after r e a = ap (λ (l : LentBytes). l .receive) (a .lent)
 
 -- where a payload stands
 pub handed-once : (receive : List ℕ) (n r r′ from from′ got got′ : ℕ) → Handed receive n r from got → Handed receive n r′ from′ got′

@@ -1,5 +1,5 @@
--- What a call from outside leaves in the bytes that were lent, by name.
-use mathlib.Core.Bool.{Bool, true, false, cond}
+-- What a call from outside leaves in the bytes that were lent, and the numbers that it answers, by name.
+use mathlib.Core.Bool.{cond}
 use mathlib.Core.List.{List}
 use mathlib.Core.Option.{Option, none, some}
 use mathlib.Core.Path.{_≡_}
@@ -8,34 +8,41 @@ use lib.ListN.{length, take}
 use lib.Dec.{eqb}
 use Rattle.profile.specs.declared.Profile.{Profile}
 use Rattle.packet.specs.Packet.{payloadOf}
-use Rattle.packet_reply.specs.Reply.{front}
+use Rattle.packet.specs.Frame.{front}
 use Rattle.state.specs.declared.State.{State}
+use Rattle.state.specs.State.{freshState, zeroState}
 use Rattle.profile_bytes.specs.Profile.{profileIn}
 use Rattle.state_bytes.specs.State.{stateIn, stateBytes, stateOver}
+use Rattle.device_calls.specs.declared.Row.{Row}
 use Rattle.device_calls.specs.declared.Refusal.{Refusal}
-use Rattle.device_calls.specs.declared.Refusal.the-variants.{Accepted, Unacceptable, WrongImage, WrongState, ShortReceive, ShortReply}
-use Rattle.device_steps.specs.Step.{Machine, machineOf}
+use Rattle.device_calls.specs.declared.Refusal.the-variants.{Accepted, By}
+use Rattle.device_calls.specs.Calls.{buffers, rowNumber, numberOf, startedAt}
+use Rattle.device_steps.specs.Step.{machineOf}
 use Rattle.device_steps.specs.Feed.{Delivery, feedOf}
-use Rattle.device_calls.specs.Calls.{numberOf, startedAt, zeroState}
-use Rattle.interface.specs.Calls.{startRefusal, feedRefusal}
+use Rattle.interface.specs.Calls.{LentBytes, startingRefusal, feedingRefusal}
+
+-- the numbers that a feed answers
+pub record Numbers : Type 0 where
+  pub number : ℕ
+  pub consumed : ℕ
+  pub sent : ℕ
+
+abbrev pub numbers : ℕ → ℕ → ℕ → Numbers
+numbers number consumed sent = record { number = number; consumed = consumed; sent = sent }
 
 -- starting: the state that it gives, all zero if it is refused, in 33 bytes
-pub record Started (profile : List ℕ) (n : ℕ) (before after : List ℕ) (r : ℕ) : Type 0 where
-  pub number : r ≡ numberOf (startRefusal profile n (length before))
-  pub state : after ≡ stateOver (startedAt (startRefusal profile n (length before)) (profileIn profile)) before
+pub record StartedBytes (profile : List ℕ) (n : ℕ) (before after : List ℕ) (r : ℕ) : Type 0 where
+  pub number : r ≡ numberOf (startingRefusal profile n (length before))
+  pub state : after ≡ stateOver (startedAt (startingRefusal profile n (length before)) (profileIn profile) zeroState) before
 
 -- resetting: a refused one leaves the bytes
 abbrev pub resetOver : Refusal → Profile → List ℕ → List ℕ
-resetOver Accepted p before = stateBytes (startedAt Accepted p)
-resetOver Unacceptable p before = before
-resetOver WrongImage p before = before
-resetOver WrongState p before = before
-resetOver ShortReceive p before = before
-resetOver ShortReply p before = before
+resetOver Accepted p before = stateBytes (freshState p)
+resetOver (By row) p before = before
 
-pub record WasReset (profile : List ℕ) (n : ℕ) (before after : List ℕ) (r : ℕ) : Type 0 where
-  pub number : r ≡ numberOf (startRefusal profile n (length before))
-  pub state : after ≡ resetOver (startRefusal profile n (length before)) (profileIn profile) before
+pub record ResetBytes (profile : List ℕ) (n : ℕ) (before after : List ℕ) (r : ℕ) : Type 0 where
+  pub number : r ≡ numberOf (startingRefusal profile n (length before))
+  pub state : after ≡ resetOver (startingRefusal profile n (length before)) (profileIn profile) before
 
 -- the state in the bytes; the zero state stands for none
 abbrev pub stateOr : Option State → State
@@ -43,37 +50,32 @@ stateOr none = zeroState
 stateOr (some st) = st
 
 -- the delivery that the bytes ask for
-abbrev pub deliveryOf : List ℕ → List ℕ → List ℕ → List ℕ → List ℕ → Delivery
-deliveryOf profile image state receive input = feedOf (profileIn profile) (machineOf image (stateOr (stateIn state)) receive) input
+abbrev pub deliveryOf : List ℕ → LentBytes → List ℕ → Delivery
+deliveryOf profile l input =
+    feedOf (profileIn profile) (machineOf (stateOr (stateIn (l .state))) (buffers (l .image) (l .receive) (l .reply))) input
 
 -- an accepted feed: d is what is defined; of the receive buffer the held bytes are said, and empty input leaves it
-pub record Ran (d : Delivery) (input im st rc₀ rc rp₀ rp : List ℕ) (r used got : ℕ) : Type 0 where
-  pub number : r ≡ 0
-  pub state : st ≡ stateBytes (d .machine .state)
-  pub image : im ≡ d .machine .image
-  pub held : take (d .machine .state .held) rc ≡ d .machine .held
-  pub consumed : used ≡ d .consumed
-  pub count : got ≡ length (d .reply)
-  pub reply : rp ≡ front (d .reply) rp₀
-  pub idle : length input ≡ 0 → rc ≡ rc₀
+pub record RanBytes (d : Delivery) (input : List ℕ) (before after : LentBytes) (r : Numbers) : Type 0 where
+  pub is : r ≡ record { number = 0; consumed = d .consumed; sent = length (d .reply) }
+  pub state : after .state ≡ stateBytes (d .machine .state)
+  pub image : after .image ≡ d .machine .image
+  pub held : take (d .machine .state .held) (after .receive) ≡ d .machine .held
+  pub reply : after .reply ≡ front (d .reply) (before .reply)
+  pub idle : length input ≡ 0 → after .receive ≡ before .receive
 
 -- a refused feed: its number, two zeros, and every byte as it was
-pub record Unfed (row : Refusal) (im₀ im st₀ st rc₀ rc rp₀ rp : List ℕ) (r used got : ℕ) : Type 0 where
-  pub number : r ≡ numberOf row
-  pub state : st ≡ st₀
-  pub image : im ≡ im₀
-  pub receive : rc ≡ rc₀
-  pub reply : rp ≡ rp₀
-  pub consumed : used ≡ 0
-  pub count : got ≡ 0
+pub record UnfedBytes (row : Row) (before after : LentBytes) (r : Numbers) : Type 0 where
+  pub is : r ≡ record { number = rowNumber row; consumed = 0; sent = 0 }
+  pub lent : after ≡ before
 
-abbrev pub FedBy : Refusal → Delivery → List ℕ → List ℕ → List ℕ → List ℕ → List ℕ → List ℕ → List ℕ → List ℕ → List ℕ → ℕ → ℕ → ℕ → Type 0
-FedBy Accepted d input im₀ im st₀ st rc₀ rc rp₀ rp r used got = Ran d input im st rc₀ rc rp₀ rp r used got
-FedBy Unacceptable d input im₀ im st₀ st rc₀ rc rp₀ rp r used got = Unfed Unacceptable im₀ im st₀ st rc₀ rc rp₀ rp r used got
-FedBy WrongImage d input im₀ im st₀ st rc₀ rc rp₀ rp r used got = Unfed WrongImage im₀ im st₀ st rc₀ rc rp₀ rp r used got
-FedBy WrongState d input im₀ im st₀ st rc₀ rc rp₀ rp r used got = Unfed WrongState im₀ im st₀ st rc₀ rc rp₀ rp r used got
-FedBy ShortReceive d input im₀ im st₀ st rc₀ rc rp₀ rp r used got = Unfed ShortReceive im₀ im st₀ st rc₀ rc rp₀ rp r used got
-FedBy ShortReply d input im₀ im st₀ st rc₀ rc rp₀ rp r used got = Unfed ShortReply im₀ im st₀ st rc₀ rc rp₀ rp r used got
+abbrev pub FedBytes : Refusal → Delivery → List ℕ → LentBytes → LentBytes → Numbers → Type 0
+FedBytes Accepted d input before after r = RanBytes d input before after r
+FedBytes (By row) d input before after r = UnfedBytes row before after r
+
+-- what feeding promises
+abbrev pub FeedsBytes : List ℕ → List ℕ → LentBytes → LentBytes → Numbers → Type 0
+FeedsBytes profile input before after r =
+    FedBytes (feedingRefusal profile before) (deliveryOf profile before input) input before after r
 
 -- a payload stands behind start byte and length; 0 and 0 stand for none
 pub record Handed (receive : List ℕ) (n r from got : ℕ) : Type 0 where

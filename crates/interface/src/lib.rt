@@ -3,40 +3,35 @@ ghost use mathlib.Core.Bool.{_||_, cond};
 ghost use mathlib.Core.Path.{_≡_};
 ghost use lib.Dec.{eqb};
 ghost use lib.ListN.{length};
-ghost use Rattle.verdict.specs.Check.{firstFault};
 ghost use Rattle.profile_bytes.specs.Profile.{profileIn};
-ghost use Rattle.state_bytes.specs.State.{stateOver};
-ghost use Rattle.device_calls.specs.Calls.{feedRows, refusalOf, startedBy};
+ghost use Rattle.state_bytes.specs.State.{stateLength, stateOver};
+ghost use Rattle.state.specs.State.{zeroState};
+ghost use Rattle.device_calls.specs.Calls.{buffers, feedRefusal, startedBy};
 ghost use Rattle.device_steps.specs.Step.{machineOf};
 ghost use Rattle.device_steps.specs.Feed.{feedOf};
-ghost use Rattle.interface.specs.Calls.{startRefusal, feedRefusal};
-ghost use Rattle.interface.specs.Post.{Started, WasReset, FedBy, deliveryOf, Handed};
+ghost use Rattle.interface.specs.Calls.{bytes, startingRefusal};
+ghost use Rattle.interface.specs.Post.{numbers, StartedBytes, ResetBytes, FedBytes, FeedsBytes, Handed};
 use device::Refusal;
+use device::Row;
+use device::Started;
 use profile::Profile;
 use state::State;
+use state_bytes::STATE_LENGTH;
 use state_bytes::StageIn;
 
 // Why a start with a profile's bytes and `room` bytes for the state is refused, and the state that it gives.
-fn begin(bytes: &[u8], image: &[u8], room: usize) -> device::Started
-    ensures { λ r. ⌜ r ≡ startedBy (startRefusal (now (bytes .entry)) (length (now (image .entry))) room) (profileIn (now (bytes .entry))) ⌝ }
+fn begin(profile: &[u8], image: &[u8], room: usize) -> Started
+    ensures { λ r. ⌜ r ≡ startedBy (startingRefusal (now (profile .entry)) (length (now (image .entry))) room) (profileIn (now (profile .entry))) zeroState ⌝ }
 {
-    if bytes.len() != 156 {
-        return device::Started {
-            refusal: Refusal::Unacceptable,
-            state: device::zero(),
-        };
-    }
-    let p = profile_bytes::profile_in(bytes);
-    let begun = device::start(p, image);
+    let begun = device::start(profile_bytes::profile_in(profile), image);
     let refusal = begun.refusal;
-    let number = device::number(refusal);
-    if number != 0 {
+    if !device::is_accepted(refusal) {
         return begun;
     }
-    if room != 33 {
-        return device::Started {
-            refusal: Refusal::WrongState,
-            state: device::zero(),
+    if room != STATE_LENGTH {
+        return Started {
+            refusal: Refusal::By(Row::WrongState),
+            state: state::zero(),
         };
     }
     begun
@@ -57,7 +52,7 @@ fn put(state: &mut [u8], given: State, number: u8, always: bool)
 // A fresh state for a profile and an image; a refused start leaves the zero state.
 #[no_mangle]
 pub extern "C" fn indraveck_start(profile: &[u8], image: &[u8], state: &mut [u8]) -> u32
-    ensures { λ r. ⌜ Started (now (profile .entry)) (length (now (image .entry))) (now (state .entry)) (now (state .exit)) r ⌝ }
+    ensures { λ r. ⌜ StartedBytes (now (profile .entry)) (length (now (image .entry))) (now (state .entry)) (now (state .exit)) r ⌝ }
 {
     let begun = begin(profile, image, state.len());
     let first = begun.state;
@@ -70,7 +65,7 @@ pub extern "C" fn indraveck_start(profile: &[u8], image: &[u8], state: &mut [u8]
 // The fresh state again; a refused reset leaves the bytes.
 #[no_mangle]
 pub extern "C" fn indraveck_reset(profile: &[u8], image: &[u8], state: &mut [u8]) -> u32
-    ensures { λ r. ⌜ WasReset (now (profile .entry)) (length (now (image .entry))) (now (state .entry)) (now (state .exit)) r ⌝ }
+    ensures { λ r. ⌜ ResetBytes (now (profile .entry)) (length (now (image .entry))) (now (state .entry)) (now (state .exit)) r ⌝ }
 {
     let begun = begin(profile, image, state.len());
     let again = begun.state;
@@ -92,11 +87,12 @@ fn feed_state(
     consumed: &mut u64,
     sent: &mut u64,
 ) -> u32
-    requires { ⌜ length (now state) ≡ 33 ⌝ }
-    ensures { λ r. ⌜ FedBy (refusalOf (firstFault (feedRows p (length (now (image .entry))) st (now (receive .entry)) (length (now (reply .entry))))))
-        (feedOf p (machineOf (now (image .entry)) st (now (receive .entry))) (now (input .entry))) (now (input .entry))
-        (now (image .entry)) (now (image .exit)) (now (state .entry)) (now (state .exit)) (now (receive .entry)) (now (receive .exit)) (now (reply .entry)) (now (reply .exit))
-        r (now (consumed .exit)) (now (sent .exit)) ⌝ }
+    requires { ⌜ length (now state) ≡ stateLength ⌝ }
+    ensures { λ r. ⌜ FedBytes (feedRefusal p st (buffers (now (image .entry)) (now (receive .entry)) (now (reply .entry))))
+        (feedOf p (machineOf st (buffers (now (image .entry)) (now (receive .entry)) (now (reply .entry)))) (now (input .entry))) (now (input .entry))
+        (bytes (now (image .entry)) (now (state .entry)) (now (receive .entry)) (now (reply .entry)))
+        (bytes (now (image .exit)) (now (state .exit)) (now (receive .exit)) (now (reply .exit)))
+        (numbers r (now (consumed .exit)) (now (sent .exit))) ⌝ }
 {
     let fed = device::feed(p, image, st, receive, reply, input);
     let refusal = fed.refusal;
@@ -120,19 +116,16 @@ pub extern "C" fn indraveck_feed(
     consumed: &mut u64,
     sent: &mut u64,
 ) -> u32
-    ensures { λ r. ⌜ FedBy (feedRefusal (now (profile .entry)) (length (now (image .entry))) (now (state .entry)) (now (receive .entry)) (length (now (reply .entry))))
-        (deliveryOf (now (profile .entry)) (now (image .entry)) (now (state .entry)) (now (receive .entry)) (now (input .entry))) (now (input .entry))
-        (now (image .entry)) (now (image .exit)) (now (state .entry)) (now (state .exit)) (now (receive .entry)) (now (receive .exit)) (now (reply .entry)) (now (reply .exit))
-        r (now (consumed .exit)) (now (sent .exit)) ⌝ }
+    ensures { λ r. ⌜ FeedsBytes (now (profile .entry)) (now (input .entry))
+        (bytes (now (image .entry)) (now (state .entry)) (now (receive .entry)) (now (reply .entry)))
+        (bytes (now (image .exit)) (now (state .exit)) (now (receive .exit)) (now (reply .exit)))
+        (numbers r (now (consumed .exit)) (now (sent .exit))) ⌝ }
 {
-    *consumed = 0;
-    *sent = 0;
-    if profile.len() != 156 {
-        return device::number(Refusal::Unacceptable) as u32;
-    }
     let found = state_bytes::stage_in(state);
     match found {
         StageIn::NoStage => {
+            *consumed = 0;
+            *sent = 0;
             let begun = begin(profile, image, 0);
             let refusal = begun.refusal;
             device::number(refusal) as u32

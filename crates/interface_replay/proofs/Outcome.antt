@@ -1,42 +1,36 @@
--- Which row refuses a replay from outside, and what it leaves. Assumes nothing.
+-- What a replay from outside leaves, from what the start and the play of the recording answered. Assumes nothing.
 use mathlib.Core.Bool.{true, false}
 use mathlib.Core.List.{List}
 use mathlib.Core.Path.{_≡_, refl, sym, ap, _∙_}
 use Prim.Native.Nat.{ℕ}
 use lib.ListN.{length}
-use Rattle.verdict.specs.Check.{firstFault}
 use Rattle.profile.specs.declared.Profile.{Profile}
 use Rattle.profile.specs.Areas.{areasOf}
 use Rattle.recording.specs.Recording.{recordsOf}
 use Rattle.record_exchange.specs.Line.{exchangesOf}
-use Rattle.record_exchange.specs.Replay.{replay}
+use Rattle.record_replay.specs.Replay.{replay}
 use Rattle.record_replay.specs.Post.{Played}
-use Rattle.device_calls.specs.declared.Refusal.{Refusal}
+use Rattle.state.specs.State.{zeroState}
 use Rattle.device_calls.specs.declared.Refusal.the-variants.{Accepted}
 use Rattle.device_calls.specs.declared.Started.{Started}
-use Rattle.device_calls.specs.Calls.{numberOf, isAccepted, startRows, refusalOf, startedBy}
+use Rattle.device_calls.specs.Calls.{numberOf, isAccepted, startRefusal, startedBy}
 use Rattle.device_calls.proofs.Rows.{is-accepted}
 use Rattle.profile_bytes.specs.Profile.{profileIn}
-use Rattle.profile_bytes.proofs.RowLaws.{refused-start}
-use Rattle.interface_replay.specs.Post.{replayRefusal, Replayed}
+use Rattle.interface_replay.specs.Post.{Replayed}
 
--- 156 bytes are refused as a start with their profile
-pub judged-start : (profile : List ℕ) (n : ℕ) → length profile ≡ 156 → (p : Profile) → p ≡ profileIn profile
-    → (begun : Started) → begun ≡ startedBy (refusalOf (firstFault (startRows p n))) p → begun .refusal ≡ replayRefusal profile n
-judged-start profile n h p q begun e =
-    ap (λ (x : Started). x .refusal) e
-    ∙ ap (λ (x : Profile). refusalOf (firstFault (startRows x n))) q
-    ∙ sym (refused-start profile n h)
+-- the refusal of the start with the profile in the bytes
+module _ (profile recording before : List ℕ) (p : Profile) (q : p ≡ profileIn profile)
+    (begun : Started) (e : begun ≡ startedBy (startRefusal p (length before)) p zeroState) where
+  first : begun .refusal ≡ startRefusal (profileIn profile) (length before)
+  first = ap (λ (x : Started). x .refusal) e ∙ ap (λ (x : Profile). startRefusal x (length before)) q
 
--- the refusal that was found, and whether it is one
-module _ (profile recording before : List ℕ) (row : Refusal) (e : row ≡ replayRefusal profile (length before)) where
-  pub left : (r : ℕ) → isAccepted row ≡ false → r ≡ numberOf row → Replayed profile recording before before r 0
-  left r f m =
-      let g : isAccepted (replayRefusal profile (length before)) ≡ false = ap isAccepted (sym e) ∙ f in
-      record { number = m ∙ ap numberOf e; image = simp g; count = simp g }
+  pub left : isAccepted (begun .refusal) ≡ false → (r : ℕ) → r ≡ numberOf (begun .refusal) → Replayed profile recording before before r 0
+  left f r m =
+      let g : isAccepted (startRefusal (profileIn profile) (length before)) ≡ false = ap isAccepted (sym first) ∙ f in
+      record { number = m ∙ ap numberOf first; image = simp g; count = simp g }
 
-  pub replayed : (after : List ℕ) (read : ℕ) → isAccepted row ≡ true → (p : Profile) → p ≡ profileIn profile
-      → Played p recording before after read → Replayed profile recording before after 0 read
-  replayed after read t p q played =
-      let a : replayRefusal profile (length before) ≡ Accepted = sym e ∙ is-accepted row t in
+  pub replayed : isAccepted (begun .refusal) ≡ true → (after : List ℕ) (read : ℕ) → Played p recording before after read
+      → Replayed profile recording before after 0 read
+  replayed t after read played =
+      let a : startRefusal (profileIn profile) (length before) ≡ Accepted = sym first ∙ is-accepted (begun .refusal) t in
       record { number = rw a refl; image = rw a (played .image ∙ ap (λ (x : Profile). replay (areasOf x) before (exchangesOf (recordsOf recording))) q); count = rw a (played .read) }

@@ -4,19 +4,13 @@ use mathlib.Core.List.{List}
 use mathlib.Core.Path.{_≡_}
 use Prim.Native.Nat.{ℕ}
 use lib.ListN.{length}
-use Rattle.verdict.specs.Check.{firstFault}
 use Rattle.profile.specs.Areas.{areasOf}
 use Rattle.recording.specs.Recording.{recordsOf, readable}
 use Rattle.record_exchange.specs.Line.{exchangesOf}
-use Rattle.record_exchange.specs.Replay.{replay}
+use Rattle.record_replay.specs.Replay.{replay}
 use Rattle.device_calls.specs.declared.Refusal.{Refusal}
-use Rattle.device_calls.specs.Calls.{numberOf, isAccepted, refusalOf}
+use Rattle.device_calls.specs.Calls.{numberOf, isAccepted, startRefusal}
 use Rattle.profile_bytes.specs.Profile.{profileIn}
-use Rattle.profile_bytes.specs.Rows.{profileRows}
-
--- why it is refused, for an image of n bytes
-abbrev pub replayRefusal : List ℕ → ℕ → Refusal
-replayRefusal profile n = refusalOf (firstFault (profileRows profile n))
 
 -- the image, and how far the recording could be read; a refused replay leaves the image and reads nothing
 abbrev pub imageBy : Refusal → List ℕ → List ℕ → List ℕ → List ℕ
@@ -27,6 +21,6 @@ abbrev pub readBy : Refusal → List ℕ → ℕ
 readBy row recording = cond (isAccepted row) (readable recording) 0
 
 pub record Replayed (profile recording before after : List ℕ) (r read : ℕ) : Type 0 where
-  pub number : r ≡ numberOf (replayRefusal profile (length before))
-  pub image : after ≡ imageBy (replayRefusal profile (length before)) profile recording before
-  pub count : read ≡ readBy (replayRefusal profile (length before)) recording
+  pub number : r ≡ numberOf (startRefusal (profileIn profile) (length before))
+  pub image : after ≡ imageBy (startRefusal (profileIn profile) (length before)) profile recording before
+  pub count : read ≡ readBy (startRefusal (profileIn profile) (length before)) recording

@@ -1,22 +1,8 @@
 // The replay of a recorded line for other languages: numbers and byte slices.
-ghost use mathlib.Core.Path.{_≡_};
-ghost use lib.ListN.{length};
-ghost use Rattle.interface_replay.specs.Post.{replayRefusal, Replayed};
-use device_calls::Refusal;
-
-// Why a replay with a profile's bytes on an image is refused: as a start is.
-fn judged(bytes: &[u8], image: &[u8]) -> Refusal
-    ensures { λ r. ⌜ r ≡ replayRefusal (now (bytes .entry)) (length (now (image .entry))) ⌝ }
-{
-    if bytes.len() != 156 {
-        return Refusal::Unacceptable;
-    }
-    let begun = device_calls::start(profile_bytes::profile_in(bytes), image);
-    begun.refusal
-}
+ghost use Rattle.interface_replay.specs.Post.{Replayed};
 
 // The image with a recorded line replayed on it, and how many of the recording's bytes could be read: all, unless there is a record
-// that cannot be.
+// that cannot be. It is refused as a start is.
 #[no_mangle]
 pub extern "C" fn indraveck_replay(
     profile: &[u8],
@@ -26,12 +12,14 @@ pub extern "C" fn indraveck_replay(
 ) -> u32
     ensures { λ r. ⌜ Replayed (now (profile .entry)) (now (recording .entry)) (now (image .entry)) (now (image .exit)) r (now (read .exit)) ⌝ }
 {
-    let refusal = judged(profile, image);
+    let p = profile_bytes::profile_in(profile);
+    let begun = device_calls::start(p, image);
+    let refusal = begun.refusal;
     if !device_calls::is_accepted(refusal) {
         *read = 0;
         return device_calls::number(refusal) as u32;
     }
-    let count = record_replay::play(image, profile_bytes::profile_in(profile), recording);
+    let count = record_replay::play(image, p, recording);
     *read = count as u64;
     0
 }

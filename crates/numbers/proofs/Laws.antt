@@ -1,18 +1,16 @@
 -- What reading and writing a field need, once over the width. Assumes nothing.
-use mathlib.Core.Bool.{Bool, true, false, not, cond}
+use mathlib.Core.Bool.{Bool, true, false, not}
 use mathlib.Core.List.{List, [], _∷_}
 use mathlib.Core.Path.{_≡_, refl, sym, ap, _∙_}
-use Prim.Native.Nat.{ℕ, zero, suc, _+_, _*_, _/_, _%_, _^_, _≤_, _<_}
-use native.Mathlib.Nat.{add-zero, add-suc, div-one}
-use native.Mathlib.Numerals.{add-one}
+use Prim.Native.Nat.{ℕ, zero, suc, _+_, _≤_, _<_}
+use native.Mathlib.Nat.{add-zero}
 use native.Mathlib.Omega.{arith}
 use lib.ListN.{length, take, drop, getD, set}
 use lib.Seq.{sets, drop-cons}
 use lib.Dec.{leb}
 use borrow.Author.Tests.{le-leb, leb-true, not-true, not-false}
-use Rattle.numbers.specs.declared.Number.{Number}
 use Rattle.numbers.specs.declared.Number.the-variants.{Is, CutShort}
-use Rattle.numbers.specs.Bytes.{number, bytesOf, field, numberAt, withNumber, Put}
+use Rattle.numbers.specs.Bytes.{number, bytesOf, numberAt, withNumber, Put}
 
 -- the bytes of a field as code reads them: at, at + 1, ..
 unfoldable pub digits : ℕ → List ℕ → ℕ → ℕ → List ℕ

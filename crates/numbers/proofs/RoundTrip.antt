@@ -1,16 +1,14 @@
 -- What is written reads back, and what was read is written the same; once over the width. Assumes nothing.
-use mathlib.Core.Bool.{Bool, true, false, cond}
 use mathlib.Core.List.{List, [], _∷_, _++_, append-assoc}
 use mathlib.Core.Path.{_≡_, refl, sym, ap, _∙_}
 use Prim.Native.Nat.{ℕ, zero, suc, _+_, _-_, _*_, _/_, _%_, _^_, _≤_, _<_}
-use native.Mathlib.Nat.{mod-eq-of-lt, mod-one, mul-comm, mul-assoc, pow-succ', add-mul-div-right, add-comm, mul-add-mod-self-right}
+use native.Mathlib.Nat.{mod-eq-of-lt, mod-one, mul-assoc, pow-succ', add-mul-div-right, add-comm, mul-add-mod-self-right}
 use native.Mathlib.Omega.{arith}
 use lib.Arith.{mod-mul, digits-lt, digits-div}
 use lib.ListN.{length, take, drop}
 use lib.Seq.{sets, sets-eq, length-sets, drop-at, take-at, length-take-le}
-use lib.Dec.{leb}
 use borrow.Author.Tests.{le-leb}
-use Rattle.numbers.specs.declared.Number.the-variants.{Is, CutShort}
+use Rattle.numbers.specs.declared.Number.the-variants.{Is}
 use Rattle.numbers.specs.Bytes.{number, bytesOf, field, numberAt, withNumber}
 
 pub bytes-length : (w n : ℕ) → length (bytesOf w n) ≡ w

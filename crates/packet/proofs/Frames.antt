@@ -14,30 +14,30 @@ use borrow.Author.Tests.{le-leb, le-ltb, eq-eqb, eqb-true, not-false}
 use Rattle.numbers.specs.Bytes.{number, bytesOf}
 use Rattle.numbers.proofs.RoundTrip.{AllBytes, bytes-length, number-back, bytes-number}
 use Rattle.verdict.specs.declared.Reason.{Reason}
-use Rattle.verdict.specs.Check.{firstFault, NoneApplies}
+use Rattle.verdict.specs.Check.{firstFault, NoneApplies, passes}
 use Rattle.verdict.proofs.FirstFault.{clear}
 use Rattle.packet.specs.declared.Kind.{Kind}
 use Rattle.packet.specs.declared.Kind.the-variants.{Command, Data}
 use Rattle.packet.specs.declared.Progress.the-variants.{Complete}
-use Rattle.packet.specs.Packet.{startOf, permitted, lengthOf, progressOf, totalOf, etxOf, summed, endingChecks, clean, endsWell, good, contentsOf, payloadOf, lack, counted, frame}
+use Rattle.packet.specs.Packet.{startOf, permitted, lengthOf, progressOf, sumOf, etxOf, summed, endingChecks, endsWell, good, contentsOf, payloadOf, lack, counted, frame}
 use Rattle.packet.proofs.Laws.{impossible, permitted-below}
 use Rattle.packet.proofs.Gathering.{whole, complete, good-is, good-so}
 
 -- totals
 
-total-append : (a b : List ℕ) → totalOf (a ++ b) ≡ totalOf a + totalOf b
-unfolding totalOf
+total-append : (a b : List ℕ) → sumOf (a ++ b) ≡ sumOf a + sumOf b
+unfolding sumOf
 total-append [] b = omega arith
 total-append (x ∷ a) b = omega (arith, total-append a b)
 
 -- what bytes lack fills them up
-lack-fills : (a : List ℕ) → totalOf (a ++ lack a ∷ []) % 256 ≡ 0
-unfolding totalOf lack
+lack-fills : (a : List ℕ) → sumOf (a ++ lack a ∷ []) % 256 ≡ 0
+unfolding sumOf lack
 lack-fills a = omega (arith, total-append a (lack a ∷ []))
 
 -- and no other byte does
-lack-only : (a : List ℕ) (s : ℕ) → s < 256 → totalOf (a ++ s ∷ []) % 256 ≡ 0 → s ≡ lack a
-unfolding totalOf lack
+lack-only : (a : List ℕ) (s : ℕ) → s < 256 → sumOf (a ++ s ∷ []) % 256 ≡ 0 → s ≡ lack a
+unfolding sumOf lack
 lack-only a s h e = omega (arith, total-append a (s ∷ []))
 
 -- a list from its ends: first, middle, and the last two
@@ -86,7 +86,7 @@ module _ (kind : Kind) (contents : List ℕ) where
   unfolding frame
   frame-etx = parts-etx (startOf kind) (counted contents) (lack (counted contents)) 0x03
 
-  pub frame-total : totalOf (summed (frame kind contents)) % 256 ≡ 0
+  pub frame-total : sumOf (summed (frame kind contents)) % 256 ≡ 0
   unfolding frame
   frame-total = rw (parts-summed (startOf kind) (counted contents) (lack (counted contents)) 0x03) (lack-fills (counted contents))
 
@@ -155,11 +155,11 @@ frame-bytes kind contents all =
 -- what right ETX and SUM say
 pub record Ended (q : List ℕ) : Type 0 where
   pub etx : etxOf q ≡ 0x03
-  pub total : totalOf (summed q) % 256 ≡ 0
+  pub total : sumOf (summed q) % 256 ≡ 0
 
-clean-none : (f : Option Reason) → clean f ≡ true → f ≡ none
-clean-none none e = refl
-clean-none (some reason) e = impossible (cc)
+passes-none : (f : Option Reason) → passes f ≡ true → f ≡ none
+passes-none none e = refl
+passes-none (some reason) e = impossible (cc)
 
 -- the second of two tests that both fail
 neither : (s t : Bool) → (s || t) ≡ false → t ≡ false
@@ -169,10 +169,10 @@ neither false t e = e
 pub ended : (q : List ℕ) → endsWell q ≡ true → Ended q
 unfolding endsWell endingChecks NoneApplies
 ended q e =
-    let n = clear (endingChecks q) (clean-none (firstFault (endingChecks q)) e) in
+    let n = clear (endingChecks q) (passes-none (firstFault (endingChecks q)) e) in
     let x = not-false (eqb (etxOf q) 0x03) (neither (ltb (length q) 2) (not (eqb (etxOf q) 0x03)) (n .0)) in
-    let t = not-false (eqb (totalOf (summed q) % 256) 0) (n .1 .0) in
-    record { etx = eqb-true (etxOf q) 0x03 x; total = eqb-true (totalOf (summed q) % 256) 0 t }
+    let t = not-false (eqb (sumOf (summed q) % 256) 0) (n .1 .0) in
+    record { etx = eqb-true (etxOf q) 0x03 x; total = eqb-true (sumOf (summed q) % 256) 0 t }
 
 -- any number of such a list
 byte-at : (l : List ℕ) (i : ℕ) → AllBytes l → getD l i 0 < 256
@@ -194,7 +194,7 @@ rebuilt : (kind : Kind) (a x y : ℕ) (c : List ℕ) (s e : ℕ) → a ≡ start
 unfolding frame
 rebuilt kind a x y c s e start bytes says below ends =
     let b : bytesOf 2 (length c) ≡ x ∷ y ∷ [] = ap (bytesOf 2) (sym says) ∙ bytes-number (x ∷ y ∷ []) bytes in
-    let t : totalOf ((x ∷ y ∷ c) ++ s ∷ []) % 256 ≡ 0 = rw (← parts-summed a (x ∷ y ∷ c) s e) (ends .total) in
+    let t : sumOf ((x ∷ y ∷ c) ++ s ∷ []) % 256 ≡ 0 = rw (← parts-summed a (x ∷ y ∷ c) s e) (ends .total) in
     let f : e ≡ 0x03 = sym (parts-etx a (x ∷ y ∷ c) s e) ∙ ends .etx in
     let g : s ≡ lack (x ∷ y ∷ c) = lack-only (x ∷ y ∷ c) s below t in
     rw (b, ← start, ← f, ← g) refl

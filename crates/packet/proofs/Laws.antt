@@ -14,18 +14,18 @@ use Rattle.numbers.specs.Bytes.{number, field, numberAt}
 use Rattle.numbers.specs.declared.Number.the-variants.{Is, CutShort}
 use Rattle.packet.specs.declared.Kind.{Kind}
 use Rattle.packet.specs.declared.Kind.the-variants.{Command, Data}
-use Rattle.packet.specs.Packet.{longestOf, permitted, lengthOf, totalOf}
+use Rattle.packet.specs.Packet.{longestOf, permitted, lengthOf, sumOf}
 
 -- one byte more of a sum modulo 256
 pub sum-next : (l : List ℕ) (i t whole : ℕ) → i < length l
-    → (t + totalOf (drop i l)) % 256 ≡ whole
-    → ((t + getD l i 0) % 256 + totalOf (drop (i + 1) l)) % 256 ≡ whole
-unfolding totalOf
+    → (t + sumOf (drop i l)) % 256 ≡ whole
+    → ((t + getD l i 0) % 256 + sumOf (drop (i + 1) l)) % 256 ≡ whole
+unfolding sumOf
 sum-next l i t whole h e =
     let d : drop i l ≡ getD l i 0 ∷ drop (i + 1) l = rw (add-one, drop-cons l i 0 h) refl in
-    mod-add-mod (t + getD l i 0) 256 (totalOf (drop (i + 1) l))
-    ∙ ap (λ (n : ℕ). n % 256) (add-assoc t (getD l i 0) (totalOf (drop (i + 1) l)))
-    ∙ ap (λ (r : List ℕ). (t + totalOf r) % 256) {x = getD l i 0 ∷ drop (i + 1) l} {y = drop i l} (rw d refl)
+    mod-add-mod (t + getD l i 0) 256 (sumOf (drop (i + 1) l))
+    ∙ ap (λ (n : ℕ). n % 256) (add-assoc t (getD l i 0) (sumOf (drop (i + 1) l)))
+    ∙ ap (λ (r : List ℕ). (t + sumOf r) % 256) {x = getD l i 0 ∷ drop (i + 1) l} {y = drop i l} (rw d refl)
     ∙ e
 
 -- from what cannot be, anything

@@ -1,14 +1,13 @@
 -- Packets: start byte, length (two bytes), contents, SUM, 03h. Length counts the contents, COM or RES and what follows before SUM.
 use mathlib.Core.Bool.{Bool, true, false, _&&_, _||_, not, cond}
 use mathlib.Core.List.{List, [], _∷_, _++_}
-use mathlib.Core.Option.{Option, none, some}
 use Prim.Native.Nat.{ℕ, _+_, _-_, _%_}
 use lib.ListN.{length, take, drop, getD}
 use lib.Dec.{leb, ltb, eqb}
 use Rattle.numbers.specs.Bytes.{number, bytesOf, field}
 use Rattle.verdict.specs.declared.Reason.{Reason}
 use Rattle.verdict.specs.declared.Reason.the-variants.{WrongEtx, WrongSum}
-use Rattle.verdict.specs.Check.{Check, _gives_, firstFault}
+use Rattle.verdict.specs.Check.{Check, _gives_, firstFault, passes}
 use Rattle.packet.specs.declared.Kind.{Kind}
 use Rattle.packet.specs.declared.Kind.the-variants.{Command, Data}
 use Rattle.packet.specs.declared.Progress.{Progress}
@@ -44,9 +43,9 @@ progressOf kind q =
     (cond (ltb (length q) 3) Partial
     (measuredOf kind (length q) (lengthOf q))))
 
-unfoldable pub totalOf : List ℕ → ℕ
-totalOf [] = 0
-totalOf (b ∷ bs) = b + totalOf bs
+unfoldable pub sumOf : List ℕ → ℕ
+sumOf [] = 0
+sumOf (b ∷ bs) = b + sumOf bs
 
 -- the last byte of a packet
 abbrev pub etxOf : List ℕ → ℕ
@@ -59,7 +58,7 @@ summed q = take (length q - 2) (drop 1 q)
 unfoldable pub endingChecks : List ℕ → List (Check Reason)
 endingChecks q =
     (ltb (length q) 2 || not (eqb (etxOf q) 0x03) gives WrongEtx)
-    ∷ (not (eqb (totalOf (summed q) % 256) 0) gives WrongSum)
+    ∷ (not (eqb (sumOf (summed q) % 256) 0) gives WrongSum)
     ∷ []
 
 abbrev pub isPartial : Progress → Bool
@@ -76,12 +75,8 @@ isComplete Unfit = false
 isComplete Complete = true
 isComplete Excess = false
 
-abbrev pub clean : Option Reason → Bool
-clean none = true
-clean (some reason) = false
-
 unfoldable pub endsWell : List ℕ → Bool
-endsWell q = clean (firstFault (endingChecks q))
+endsWell q = passes (firstFault (endingChecks q))
 
 -- exactly one whole packet, of either kind, with right ETX and SUM
 unfoldable pub good : List ℕ → Bool
@@ -96,7 +91,7 @@ payloadOf receive n = cond (leb n (length receive) && good (take n receive)) (co
 
 -- what bytes lack to a total that 256 divides
 unfoldable pub lack : List ℕ → ℕ
-lack bs = (256 - totalOf bs % 256) % 256
+lack bs = (256 - sumOf bs % 256) % 256
 
 -- length bytes and contents
 abbrev pub counted : List ℕ → List ℕ

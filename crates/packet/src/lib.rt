@@ -1,11 +1,20 @@
-// Packets: what the bytes that came so far are, whether a packet is good, and its payload.
+// Packets: what the bytes that came so far are, whether a packet is good, its payload; packets that are built.
+mod framing;
+
 ghost use mathlib.Core.Path.{_≡_};
 ghost use Prim.Native.Nat.{_%_};
 ghost use Rattle.verdict.specs.Check.{firstFault, verdictOf};
-ghost use Rattle.packet.specs.Packet.{startOf, totalOf, permitted, measuredOf, progressOf, endingChecks, isPartial, isComplete, endsWell, good, payloadOf};
+ghost use Rattle.packet.specs.Packet.{startOf, sumOf, permitted, measuredOf, progressOf, endingChecks, isPartial, isComplete, endsWell, good, payloadOf};
+pub use framing::put_frame;
 use numbers::Number;
 use verdict::Reason;
 use verdict::Verdict;
+
+// How many bytes the longest packet has, and a buffer that any packet fits into.
+pub const LONGEST_PACKET: usize = 1030;
+
+// How many data bytes the longest data packet has.
+pub const LONGEST_DATA: usize = 1024;
 
 // The two kinds: a command starts with 01h, data with 81h.
 pub enum Kind {
@@ -41,7 +50,7 @@ pub fn is_permitted(kind: Kind, length: usize) -> bool
 }
 
 // The kind's start byte.
-fn start_byte(kind: Kind) -> u8
+pub(crate) fn start_byte(kind: Kind) -> u8
     ensures { λ r. ⌜ r ≡ startOf kind ⌝ }
 {
     match kind {
@@ -100,7 +109,7 @@ pub fn waits(s: &[u8], kind: Kind) -> bool
 
 // The sum of the bytes, modulo 256.
 pub fn sum(s: &[u8]) -> u8
-    ensures { λ r. ⌜ r ≡ totalOf (now (s .entry)) % 256 ⌝ }
+    ensures { λ r. ⌜ r ≡ sumOf (now (s .entry)) % 256 ⌝ }
 {
     let mut t: u8 = 0;
     let mut i = 0;

@@ -51,8 +51,8 @@ eadOf q = fourAt q 8
 abbrev pub brtOf : List ℕ → ℕ
 brtOf q = fourAt q 4
 
-abbrev pub numberOf : List ℕ → ℕ
-numberOf q = getD q 4 0
+abbrev pub areaNumberOf : List ℕ → ℕ
+areaNumberOf q = getD q 4 0
 
 abbrev pub infoLength : Com → ℕ
 infoLength Inquiry = 0

@@ -8,21 +8,17 @@ use native.Mathlib.Omega.{arith}
 use lib.Dec.{ltb}
 use lib.ListN.{length, take, drop, getD, set, replicate, length-append, length-drop, length-replicate, List·getD-append}
 use lib.Seq.{paste, take-append-le, drop-append-le, take-add, length-take-le, paste-zero, paste-suc}
-use borrow.Author.Tests.{lt-ltb, le-ltb, ltb-true, ltb-false, eq-eqb, ne-eqb, eqb-true}
+use borrow.Author.Tests.{lt-ltb, le-ltb, ltb-true, ltb-false, eq-eqb, ne-eqb}
 use Rattle.numbers.specs.Bytes.{numberAt}
 use Rattle.numbers.specs.declared.Number.the-variants.{Is, CutShort}
 use Rattle.numbers.proofs.Copied.{part-count, pasted}
 use Rattle.packet.specs.declared.Kind.{Kind}
-use Rattle.packet.specs.declared.Kind.the-variants.{Command as CommandPacket, Data as DataPacket}
 use Rattle.packet.specs.declared.Progress.the-variants.{Partial}
 use Rattle.packet.specs.Packet.{lengthOf, permitted, progressOf, isPartial}
 use Rattle.packet.proofs.Laws.{length-cut, length-there, length-read}
-use Rattle.packet.proofs.Gathering.{Held, held, partial, held-few}
-use Rattle.state.specs.declared.Stage.{Stage}
-use Rattle.state.specs.declared.Stage.the-variants.{Setting, Authentication, Command, Writing, Reading}
-use Rattle.state.specs.Fits.{heldFits}
-use Rattle.state.proofs.FitParts.{is-partial, fit-few}
-use Rattle.packet_gather.specs.Gather.{lackOf, openOf, firstOf, gainOf, Holds}
+use Rattle.packet.proofs.Gathering.{Held, held, partial}
+use Rattle.packet.proofs.Partial.{is-partial, partial-few}
+use Rattle.packet_gather.specs.Gather.{lackOf, openOf, gainOf, Holds}
 
 -- how many bytes are lacking before the last
 lack-short : (q : List ℕ) → length q < 3 → lackOf q ≡ 0
@@ -61,15 +57,8 @@ same-says q more h =
     let l : 2 ≤ length (drop 1 q) = rw length-drop (omega arith) in
     rw (drop-append-le 1 q more (omega arith), take-append-le 2 (drop 1 q) more l) refl
 
-pub lack-next : (q : List ℕ) (b : ℕ) → 1 ≤ lackOf q → lackOf (q ++ b ∷ []) + 1 ≡ lackOf q
-lack-next q b h =
-    let l : Lacks q = lacks q h in
-    let n : length (q ++ b ∷ []) ≡ length q + 1 = length-append q (b ∷ []) in
-    let k : 3 ≤ length (q ++ b ∷ []) = omega (arith, l .known) in
-    omega (arith, l .known, l .count, lack-long (q ++ b ∷ []) k, same-says q (b ∷ []) (l .known))
-
 -- a packet stays incomplete
-pub partial-more : (kind : Kind) (q bs : List ℕ) → progressOf kind q ≡ Partial → length bs ≤ lackOf q → progressOf kind (q ++ bs) ≡ Partial
+partial-more : (kind : Kind) (q bs : List ℕ) → progressOf kind q ≡ Partial → length bs ≤ lackOf q → progressOf kind (q ++ bs) ≡ Partial
 partial-more kind q [] e h = ap (progressOf kind) (append-nil q) ∙ e
 partial-more kind q (b ∷ bs) e h =
     let l : Lacks q = lacks q (omega arith) in
@@ -93,37 +82,19 @@ front-partial kind q bs e =
       count = λ long. let c = k .count (omega arith) in omega (arith, c, n, same-says q bs long);
     })
 
-still-partial : (kind : Kind) (q bs : List ℕ) → isPartial (progressOf kind q) ≡ true → length bs ≤ lackOf q → isPartial (progressOf kind (q ++ bs)) ≡ true
-still-partial kind q bs e h = ap isPartial (partial-more kind q bs (is-partial (progressOf kind q) e) h)
+-- the same by the test, which is what held bytes are known by
+pub still-held : (kind : Kind) (q bs : List ℕ) → isPartial (progressOf kind q) ≡ true → length bs ≤ lackOf q → isPartial (progressOf kind (q ++ bs)) ≡ true
+still-held kind q bs e h = ap isPartial (partial-more kind q bs (is-partial (progressOf kind q) e) h)
 
-pub none-lacking : (q : List ℕ) → length q ≡ 0 → lackOf q ≡ 0
-none-lacking q e = lack-short q (omega arith)
-
-pub still-held : (stage : Stage) (q bs : List ℕ) → heldFits stage q ≡ true → length bs ≤ lackOf q → heldFits stage (q ++ bs) ≡ true
-unfolding heldFits
-still-held (Setting u) q bs e h =
-    let z : length q ≡ 0 = eqb-true (length q) 0 e in
-    eq-eqb (length (q ++ bs)) 0 (omega (arith, length-append q bs, none-lacking q z))
-still-held Authentication q bs e h = still-partial CommandPacket q bs e h
-still-held Command q bs e h = still-partial CommandPacket q bs e h
-still-held (Writing r) q bs e h = still-partial DataPacket q bs e h
-still-held (Reading r) q bs e h = still-partial DataPacket q bs e h
-
--- what a stage can hold, it can hold the beginning of
-pub front-held : (stage : Stage) (q bs : List ℕ) → heldFits stage (q ++ bs) ≡ true → heldFits stage q ≡ true
-unfolding heldFits
-front-held (Setting u) q bs e = eq-eqb (length q) 0 (omega (arith, length-append q bs, eqb-true (length (q ++ bs)) 0 e))
-front-held Authentication q bs e = ap isPartial (front-partial CommandPacket q bs (is-partial (progressOf CommandPacket (q ++ bs)) e))
-front-held Command q bs e = ap isPartial (front-partial CommandPacket q bs (is-partial (progressOf CommandPacket (q ++ bs)) e))
-front-held (Writing r) q bs e = ap isPartial (front-partial DataPacket q bs (is-partial (progressOf DataPacket (q ++ bs)) e))
-front-held (Reading r) q bs e = ap isPartial (front-partial DataPacket q bs (is-partial (progressOf DataPacket (q ++ bs)) e))
+pub front-held : (kind : Kind) (q bs : List ℕ) → isPartial (progressOf kind (q ++ bs)) ≡ true → isPartial (progressOf kind q) ≡ true
+front-held kind q bs e = ap isPartial (front-partial kind q bs (is-partial (progressOf kind (q ++ bs)) e))
 
 -- no packet lacks more than a longest one has
 pub lack-few : (kind : Kind) (q : List ℕ) → isPartial (progressOf kind q) ≡ true → length q + lackOf q < 1030
 lack-few kind q e =
     let more : List ℕ = replicate (lackOf q) 0 in
     let n : length more ≡ lackOf q = length-replicate (lackOf q) 0 in
-    omega (arith, length-append q more, n, held-few kind (q ++ more) (partial-more kind q more (is-partial (progressOf kind q) e) (omega (arith, n))))
+    omega (arith, length-append q more, n, partial-few kind (q ++ more) (still-held kind q more e (omega (arith, n))))
 
 -- how many bytes of bs can be gained, by the tests
 module _ (kind : Kind) (bs : List ℕ) where
@@ -139,14 +110,14 @@ module _ (kind : Kind) (bs : List ℕ) where
   unfolding openOf
   open-some h e = simp (le-ltb _ _ h, e)
 
-module _ (bs q : List ℕ) where
-  pub gain-more : (stage : Stage) → (length q ≡ 0 → ⊥) → lackOf q ≡ gainOf stage q bs
+module _ (kind : Kind) (q bs : List ℕ) where
+  pub gain-more : (length q ≡ 0 → ⊥) → lackOf q ≡ gainOf kind q bs
   unfolding gainOf
-  gain-more stage e = simp (ne-eqb _ _ e)
+  gain-more e = simp (ne-eqb _ _ e)
 
-  pub gain-first : (stage g : Stage) → stage ≡ g → length q ≡ 0 → firstOf g bs ≡ gainOf stage q bs
+  pub gain-first : length q ≡ 0 → openOf kind bs ≡ gainOf kind q bs
   unfolding gainOf
-  gain-first stage g s e = simp (eq-eqb _ _ e, s)
+  gain-first e = simp (eq-eqb _ _ e)
 
 -- the first n bytes of bs, to rc from a place on
 module _ (rc bs : List ℕ) (at n : ℕ) (room : at + n ≤ length rc) (there : n ≤ length bs) where
@@ -181,7 +152,7 @@ module _ (kind : Kind) (bs : List ℕ) (n : ℕ) where
       let split : take n bs ≡ take 3 bs ++ rest = sym (ap (λ (j : ℕ). take j bs) k) ∙ take-add 3 (n - 3) bs in
       let few : n - 3 ≤ length (drop 3 bs) = omega (arith, length-drop 3 bs) in
       let count : length rest ≡ n - 3 = length-take-le (n - 3) (drop 3 bs) few in
-      ap (λ (l : List ℕ). isPartial (progressOf kind l)) split ∙ still-partial kind (take 3 bs) rest e (omega (arith, count))
+      ap (λ (l : List ℕ). isPartial (progressOf kind l)) split ∙ still-held kind (take 3 bs) rest e (omega (arith, count))
 
   opened-partial : n ≡ min (openOf kind bs) (length bs) → isPartial (progressOf kind []) ≡ true → isPartial (progressOf kind (take n bs)) ≡ true
   opened-partial e f = go (ltb (length bs) 3) refl
@@ -206,36 +177,24 @@ module _ (kind : Kind) (bs : List ℕ) (n : ℕ) where
       go true g = none (omega (arith, below, open-few kind bs (ltb-true (length bs) 3 g)))
       go false g = begun (ltb-false (length bs) 3 g) (isPartial (progressOf kind (take 3 bs))) refl
 
--- what is gained is held
-module _ (bs : List ℕ) (n : ℕ) where
-  first-held : (stage : Stage) → n ≡ min (firstOf stage bs) (length bs) → heldFits stage [] ≡ true → heldFits stage (take n bs) ≡ true
-  unfolding heldFits firstOf
-  first-held (Setting u) e f =
-      let h : min 0 (length bs) ≤ 0 = min-le-left _ _ in
-      let z : n ≡ 0 = omega arith in
-      rw z f
-  first-held Authentication e f = opened-partial CommandPacket bs n e f
-  first-held Command e f = opened-partial CommandPacket bs n e f
-  first-held (Writing r) e f = opened-partial DataPacket bs n e f
-  first-held (Reading r) e f = opened-partial DataPacket bs n e f
-
-  gained-held : (stage : Stage) (q : List ℕ) → n ≡ min (gainOf stage q bs) (length bs) → heldFits stage q ≡ true → heldFits stage (q ++ take n bs) ≡ true
-  gained-held stage [] e f = first-held stage (e ∙ ap (λ (k : ℕ). min k (length bs)) (sym (gain-first bs [] stage stage refl refl))) f
-  gained-held stage (x ∷ q) e f =
+  -- what is gained is held
+  gained-held : (q : List ℕ) → n ≡ min (gainOf kind q bs) (length bs) → isPartial (progressOf kind q) ≡ true → isPartial (progressOf kind (q ++ take n bs)) ≡ true
+  gained-held [] e f = opened-partial (e ∙ ap (λ (k : ℕ). min k (length bs)) (sym (gain-first kind [] bs refl))) f
+  gained-held (x ∷ q) e f =
       let some : length (x ∷ q) ≡ 0 → ⊥ = λ z. omega arith in
-      let g : lackOf (x ∷ q) ≡ gainOf stage (x ∷ q) bs = gain-more bs (x ∷ q) stage some in
-      let low : min (gainOf stage (x ∷ q) bs) (length bs) ≤ gainOf stage (x ∷ q) bs = min-le-left _ _ in
-      let high : min (gainOf stage (x ∷ q) bs) (length bs) ≤ length bs = min-le-right _ _ in
+      let g : lackOf (x ∷ q) ≡ gainOf kind (x ∷ q) bs = gain-more kind (x ∷ q) bs some in
+      let low : min (gainOf kind (x ∷ q) bs) (length bs) ≤ gainOf kind (x ∷ q) bs = min-le-left _ _ in
+      let high : min (gainOf kind (x ∷ q) bs) (length bs) ≤ length bs = min-le-right _ _ in
       let count : length (take n bs) ≡ n = length-take-le n bs (omega arith) in
-      still-held stage (x ∷ q) (take n bs) f (omega (arith, count, g, low))
+      still-held kind (x ∷ q) (take n bs) f (omega (arith, count, g, low))
 
 -- n bytes of bs are taken
-module _ (stage : Stage) (at : ℕ) (rc bs : List ℕ) (holds : Holds stage at rc) (n : ℕ) (e : n ≡ min (gainOf stage (take at rc) bs) (length bs)) where
+module _ (kind : Kind) (at : ℕ) (rc bs : List ℕ) (holds : Holds kind at rc) (n : ℕ) (e : n ≡ min (gainOf kind (take at rc) bs) (length bs)) where
   abbrev q : List ℕ
   q = take at rc
 
   pub taken-there : n ≤ length bs
-  taken-there = let h : min (gainOf stage q bs) (length bs) ≤ length bs = min-le-right _ _ in omega arith
+  taken-there = let h : min (gainOf kind q bs) (length bs) ≤ length bs = min-le-right _ _ in omega arith
 
   pub held-count : length q ≡ at
   held-count = length-take-le at rc (holds .inside)
@@ -243,11 +202,11 @@ module _ (stage : Stage) (at : ℕ) (rc bs : List ℕ) (holds : Holds stage at r
   pub taken-count : length (take n bs) ≡ n
   taken-count = length-take-le n bs taken-there
 
-  pub taken-held : heldFits stage (q ++ take n bs) ≡ true
-  taken-held = gained-held bs n stage q e (holds .fits)
+  pub taken-held : isPartial (progressOf kind (q ++ take n bs)) ≡ true
+  taken-held = gained-held kind bs n q e (holds .fits)
 
   -- a buffer for a longest packet has room for them
   pub taken-room : at + n ≤ length rc
   taken-room =
-      let f : length (q ++ take n bs) < 1030 = fit-few stage (q ++ take n bs) taken-held in
+      let f : length (q ++ take n bs) < 1030 = partial-few kind (q ++ take n bs) taken-held in
       omega (arith, length-append q (take n bs), held-count, taken-count, holds .room)

@@ -7,16 +7,8 @@ use lib.ListN.{length, take}
 use lib.Seq.{paste}
 use lib.Dec.{ltb, eqb}
 use Rattle.packet.specs.declared.Kind.{Kind}
-use Rattle.packet.specs.declared.Kind.the-variants.{Command as CommandPacket, Data as DataPacket}
 use Rattle.packet.specs.Packet.{lengthOf, progressOf, isPartial}
-use Rattle.state.specs.declared.Stage.{Stage}
-use Rattle.state.specs.declared.Stage.the-variants.{Setting, Authentication, Command, Writing, Reading}
-use Rattle.state.specs.declared.State.{State}
-use Rattle.state.specs.Fits.{heldFits}
-
--- the state with this many bytes held
-abbrev pub held : ℕ → State → State
-held count st = record { stage = st .stage; id = st .id; line = st .line; held = count }
+use Rattle.packet.specs.Frame.{Roomy}
 
 -- how many bytes can come before the last of the packet that q begins; none where its length has not come
 unfoldable pub lackOf : List ℕ → ℕ
@@ -26,25 +18,17 @@ lackOf q = cond (ltb (length q) 3) 0 (lengthOf q + 4 - length q)
 unfoldable pub openOf : Kind → List ℕ → ℕ
 openOf kind bs = cond (ltb (length bs) 3) 0 (cond (isPartial (progressOf kind (take 3 bs))) (lackOf (take 3 bs) + 3) 0)
 
--- the same by the stage: what it awaits; setting awaits no packet
-unfoldable pub firstOf : Stage → List ℕ → ℕ
-firstOf (Setting u) bs = 0
-firstOf Authentication bs = openOf CommandPacket bs
-firstOf Command bs = openOf CommandPacket bs
-firstOf (Writing r) bs = openOf DataPacket bs
-firstOf (Reading r) bs = openOf DataPacket bs
-
 -- how many bytes of bs can come before the packet's last, behind the held bytes q; those that are held or, where none are, bs begin it
-unfoldable pub gainOf : Stage → List ℕ → List ℕ → ℕ
-gainOf stage q bs = cond (eqb (length q) 0) (firstOf stage bs) (lackOf q)
+unfoldable pub gainOf : Kind → List ℕ → List ℕ → ℕ
+gainOf kind q bs = cond (eqb (length q) 0) (openOf kind bs) (lackOf q)
 
--- the held bytes fit, in a buffer with room for a longest packet
-pub record Holds (stage : Stage) (count : ℕ) (rc : List ℕ) : Type 0 where
+-- the held bytes are an incomplete packet, in a buffer with room for a longest one
+pub record Holds (kind : Kind) (count : ℕ) (rc : List ℕ) : Type 0 where
   pub inside : count ≤ length rc
-  pub fits : heldFits stage (take count rc) ≡ true
-  pub room : 1030 ≤ length rc
+  pub fits : isPartial (progressOf kind (take count rc)) ≡ true
+  pub room : Roomy rc
 
 -- what is taken of the bytes bs, n of them, stands behind those that were held
-pub record Taken (stage : Stage) (count : ℕ) (bs : List ℕ) (n : ℕ) (rc₀ rc : List ℕ) : Type 0 where
-  pub taken : n ≡ min (gainOf stage (take count rc₀) bs) (length bs)
+pub record Taken (kind : Kind) (count : ℕ) (bs : List ℕ) (n : ℕ) (rc₀ rc : List ℕ) : Type 0 where
+  pub taken : n ≡ min (gainOf kind (take count rc₀) bs) (length bs)
   pub receive : rc ≡ paste rc₀ count bs n

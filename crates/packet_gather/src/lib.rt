@@ -3,27 +3,10 @@ ghost use mathlib.Core.Path.{_≡_};
 ghost use Prim.Native.Nat.{_+_, _≤_};
 ghost use lib.ListN.{length};
 ghost use lib.Seq.{paste};
-ghost use Rattle.packet_gather.specs.Gather.{held, lackOf, openOf, gainOf, Holds, Taken};
+ghost use Rattle.packet_gather.specs.Gather.{lackOf, openOf, gainOf, Holds, Taken};
 use numbers::Number;
 use numbers::lower;
 use packet::Kind;
-use state::Stage;
-use state::State;
-
-// The state with this many bytes held.
-pub fn holding(state: State, count: usize) -> State
-    ensures { λ r. ⌜ r ≡ held count state ⌝ }
-{
-    let stage = state.stage;
-    let id = state.id;
-    let line = state.line;
-    State {
-        stage,
-        id,
-        line,
-        held: count,
-    }
-}
 
 // The first `count` bytes of `from`, to `receive` from `at` on. A serial line brings one at a time, which needs no loop.
 fn place(receive: &mut [u8], at: usize, from: &[u8], count: usize)
@@ -68,28 +51,22 @@ fn opening(kind: Kind, input: &[u8]) -> usize
     lacking(&input[..3]) + 3
 }
 
-// How many can come behind the bytes that are held; where none are, by what the stage awaits.
-fn gain(stage: Stage, held: &[u8], input: &[u8]) -> usize
-    ensures { λ r. ⌜ r ≡ gainOf stage (now (held .entry)) (now (input .entry)) ⌝ }
+// How many can come behind the bytes that are held; where none are, behind none.
+fn gain(kind: Kind, held: &[u8], input: &[u8]) -> usize
+    ensures { λ r. ⌜ r ≡ gainOf kind (now (held .entry)) (now (input .entry)) ⌝ }
 {
     if held.len() != 0 {
         return lacking(held);
     }
-    match stage {
-        Stage::Setting(_) => 0,
-        Stage::Authentication => opening(Kind::Command, input),
-        Stage::Command => opening(Kind::Command, input),
-        Stage::Writing(_) => opening(Kind::Data, input),
-        Stage::Reading(_) => opening(Kind::Data, input),
-    }
+    opening(kind, input)
 }
 
 // As many bytes of input as can come before the packet's last, put behind the `held` ones; how many they are.
-pub fn gather(stage: Stage, held: usize, receive: &mut [u8], input: &[u8]) -> usize
-    requires { ⌜ Holds stage held (now receive) ⌝ }
-    ensures { λ r. ⌜ Taken stage held (now (input .entry)) r (now (receive .entry)) (now (receive .exit)) ⌝ }
+pub fn gather(kind: Kind, held: usize, receive: &mut [u8], input: &[u8]) -> usize
+    requires { ⌜ Holds kind held (now receive) ⌝ }
+    ensures { λ r. ⌜ Taken kind held (now (input .entry)) r (now (receive .entry)) (now (receive .exit)) ⌝ }
 {
-    let taken = lower(gain(stage, &receive[..held], input), input.len());
+    let taken = lower(gain(kind, &receive[..held], input), input.len());
     place(receive, held, input, taken);
     taken
 }

@@ -1,2 +1,3 @@
+pub mod Beyond
 pub mod Places
 pub mod Table

@@ -18,7 +18,7 @@ pub inside-within : (a : Area) (x : ℕ) → a .sad ≤ x → x ≤ a .ead → i
 unfolding inside
 inside-within a x h k = rw (le-leb (a .sad) x h) (le-leb x (a .ead) k)
 
-inside-not : (a : Area) (x : ℕ) → a .ead < x → inside a x ≡ false
+pub inside-not : (a : Area) (x : ℕ) → a .ead < x → inside a x ≡ false
 unfolding inside
 inside-not a x h = simp (lt-leb x (a .ead) h, and-false)
 

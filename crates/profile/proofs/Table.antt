@@ -9,7 +9,6 @@ use Rattle.profile.specs.declared.Profile.{Profile}
 use lib.Dec.{leb}
 use borrow.Author.Tests.{leb-true}
 use mathlib.Core.Bool.{Bool, true, false, _&&_}
-use Rattle.profile.specs.declared.Place.{Place}
 use Rattle.profile.specs.declared.Place.the-variants.{In, Nowhere}
 use Rattle.profile.specs.Areas.{entries, areasOf, noArea, sizeOf, tally, inside}
 use Rattle.profile.specs.Places.{placeFrom}

@@ -1,5 +1,5 @@
 -- The bench profile of document 01, and the area table of source 000.
-use mathlib.Core.List.{List, [], _∷_}
+use mathlib.Core.List.{List, _∷_}
 use Prim.Native.Nat.{ℕ}
 use lib.ListN.{replicate}
 use Rattle.profile.specs.declared.Area.{Area}

@@ -1,5 +1,5 @@
 -- The image is the areas' bytes joined in table order: where the byte at an address stands.
-use mathlib.Core.Bool.{Bool, true, false, cond}
+use mathlib.Core.Bool.{cond}
 use mathlib.Core.List.{List, [], _∷_}
 use mathlib.Core.Path.{_≡_}
 use Prim.Native.Nat.{ℕ, _+_, _-_, _≤_}
@@ -20,6 +20,11 @@ placeOf areas x = placeFrom 0 areas x
 -- the place in the image of the byte at an address of a spot's area
 abbrev pub offsetIn : Spot → ℕ → ℕ
 offsetIn spot x = spot .base + (x - spot .area .sad)
+
+-- WAU of the area of a place
+abbrev pub unitAt : Place → ℕ
+unitAt (In spot) = spot .area .wau
+unitAt Nowhere = 0
 
 -- what is known of a place that was found: the address lies in the area, and the sizes of at most eight areas stand before it
 abbrev pub Bounded : ℕ → Place → Type 0

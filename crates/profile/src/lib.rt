@@ -1,8 +1,8 @@
 // The profile and the image: up to eight areas, and where the byte at an address stands.
 ghost use mathlib.Core.Path.{_≡_};
-ghost use Prim.Native.Nat.{_≤_, _<_, _+_, min};
-ghost use Rattle.profile.specs.Areas.{areasOf, sizeOf, totalOf, inside};
-ghost use Rattle.profile.specs.Places.{Located};
+ghost use Prim.Native.Nat.{_≤_, min};
+ghost use Rattle.profile.specs.Areas.{areasOf, sizeOf, inside};
+ghost use Rattle.profile.specs.Places.{placeOf, unitAt, Located};
 
 pub struct Area {
     // 0 user, 1 data, 2 config
@@ -59,21 +59,6 @@ pub fn size(area: Area) -> usize
     (area.ead - area.sad) as usize + 1
 }
 
-// The image's length: all areas in use.
-pub fn total(profile: Profile) -> usize
-    ensures { λ r. ⌜ (r ≡ totalOf (areasOf profile)) × (r ≤ 34359738368) ⌝ }
-{
-    let n = used(profile.noa);
-    let mut sum: usize = 0;
-    let mut i = 0;
-    while i < n {
-        let area = profile.areas[i];
-        sum += size(area);
-        i += 1;
-    }
-    sum
-}
-
 // Whether the address lies in the area.
 pub fn holds(area: Area, address: u32) -> bool
     ensures { λ r. ⌜ r ≡ inside area address ⌝ }
@@ -100,4 +85,21 @@ pub fn locate(profile: Profile, address: u32) -> Place
         i += 1;
     }
     Place::Nowhere
+}
+
+// WAU of the area that holds an address; 0 where none does. No area has an address from 2^32 on.
+pub fn unit_at(profile: Profile, address: usize) -> u32
+    ensures { λ r. ⌜ r ≡ unitAt (placeOf (areasOf profile) address) ⌝ }
+{
+    if 0xFFFF_FFFF < address {
+        return 0;
+    }
+    let place = locate(profile, address as u32);
+    match place {
+        Place::Nowhere => 0,
+        Place::In(spot) => {
+            let area = spot.area;
+            area.wau
+        }
+    }
 }

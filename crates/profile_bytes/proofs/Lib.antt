@@ -1,4 +1,3 @@
 pub mod AreaLaws
 pub mod ProfileLaws
-pub mod RowLaws
 pub mod ProfileRoundTrip

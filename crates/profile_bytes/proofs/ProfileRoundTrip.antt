@@ -5,13 +5,14 @@ use Prim.Native.Nat.{ℕ, zero, suc, _+_, _*_, _≤_, _<_}
 use native.Mathlib.Omega.{arith}
 use lib.ListN.{length, take, drop, getD, length-append}
 use lib.Seq.{drop-append-add, getD-append-add}
+use borrow.Author.Tests.{eq-eqb}
 use Rattle.numbers.specs.Bytes.{bytesOf}
 use Rattle.numbers.proofs.RoundTrip.{AllBytes}
 use Rattle.profile.specs.declared.Area.{Area}
 use Rattle.profile.specs.declared.Profile.{Profile}
 use Rattle.packet_messages.specs.Messages.{areaMessage}
 use Rattle.packet_fields.specs.Fields.{fourAt, bytesFrom}
-use Rattle.profile_bytes.specs.Profile.{areaAt, areasFrom, profileIn, tableBytes, profileBytes}
+use Rattle.profile_bytes.specs.Profile.{areaAt, areasFrom, fieldsIn, profileIn, tableBytes, profileBytes}
 use Rattle.packet_fields.proofs.Spelled.{spelled}
 use Rattle.packet_fields.proofs.FieldLaws.{two-back, four-back, back-two, back-four, from-append}
 
@@ -100,15 +101,19 @@ table-length (a ∷ more) = omega (arith, length-append (areaMessage a) (tableBy
 pub profile-length : (p : Profile) → length (p .areas) ≡ 8 → length (profileBytes p) ≡ 156
 profile-length p h = omega (arith, profile-bytes p, table-length (p .areas))
 
-pub profile-read-back : (p : Profile) → Formed p → profileIn (profileBytes p) ≡ p
-unfolding profileIn profileBytes bytesOf
-profile-read-back p f =
+fields-back : (p : Profile) → Formed p → fieldsIn (profileBytes p) ≡ p
+unfolding fieldsIn profileBytes bytesOf
+fields-back p f =
     let bs : List ℕ = profileBytes p in
     let l : length bs ≡ 156 = profile-length p (f .eight) in
     let t : areasFrom 8 20 bs ≡ p .areas = table-back (p .areas) (headBytes p) 8 20 (f .table) (f .eight) (head-length p) in
     rw
     (t, two-back (p .bfv) 2 bs (omega arith) (f .bfv) refl, four-back (p .sci) 4 bs (omega arith) (f .sci) refl, four-back (p .rmb) 8 bs (omega arith) (f .rmb) refl, four-back (p .window .low) 12 bs (omega arith) (f .low) refl, four-back (p .window .high) 16 bs (omega arith) (f .high) refl)
     refl
+
+pub profile-read-back : (p : Profile) → Formed p → profileIn (profileBytes p) ≡ p
+unfolding profileIn
+profile-read-back p f = rw (eq-eqb _ _ (profile-length p (f .eight))) (fields-back p f)
 
 from-one : (at : ℕ) (bs : List ℕ) → bytesFrom 1 at bs ≡ getD bs at 0 ∷ []
 unfolding bytesFrom
@@ -140,9 +145,13 @@ module _ (bs : List ℕ) (t : AllBytes bs) where
   unfolding bytesFrom
   parts h = spelled 156 bs h
 
-  pub profile-written-back : length bs ≡ 156 → profileBytes (profileIn bs) ≡ bs
-  unfolding profileBytes profileIn
-  profile-written-back h =
+  fields-written-back : length bs ≡ 156 → profileBytes (fieldsIn bs) ≡ bs
+  unfolding profileBytes fieldsIn
+  fields-written-back h =
       rw
       (back-two 2 bs t (omega arith), back-four 4 bs t (omega arith), back-four 8 bs t (omega arith), back-four 12 bs t (omega arith), back-four 16 bs t (omega arith), table-written 8 20 (omega arith))
       (parts h)
+
+  pub profile-written-back : length bs ≡ 156 → profileBytes (profileIn bs) ≡ bs
+  unfolding profileIn
+  profile-written-back h = rw (eq-eqb _ _ h) (fields-written-back h)

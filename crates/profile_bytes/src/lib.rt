@@ -1,13 +1,15 @@
 // A profile out of 156 bytes.
 ghost use mathlib.Core.Path.{_≡_};
-ghost use Prim.Native.Nat.{_≤_};
 ghost use lib.ListN.{length};
 ghost use Rattle.packet_fields.specs.Fields.{twoAt};
-ghost use Rattle.profile_bytes.specs.Profile.{areaAt, areasFrom, profileIn};
+ghost use Rattle.profile_bytes.specs.Profile.{profileLength, areaAt, areasFrom, fieldsIn, noProfile, profileIn};
 use numbers::Number;
 use profile::Area;
 use profile::Profile;
 use profile::Window;
+
+// How many bytes a profile has.
+pub const PROFILE_LENGTH: usize = 156;
 
 // The number in two bytes.
 fn two_at(bytes: &[u8], at: usize) -> u16
@@ -33,43 +35,9 @@ fn area_of(part: &[u8]) -> Area
     }
 }
 
-// The area from a place on, where the bytes may end before it does.
-fn area_cut(bytes: &[u8], at: usize) -> Area
-    requires { ⌜ at ≤ 139 ⌝ }
-    ensures { λ r. ⌜ r ≡ areaAt (now (bytes .entry)) at ⌝ }
-{
-    Area {
-        koa: packet_fields::byte_at(bytes, at),
-        sad: packet_fields::four_at(bytes, at + 1),
-        ead: packet_fields::four_at(bytes, at + 5),
-        eau: packet_fields::four_at(bytes, at + 9),
-        wau: packet_fields::four_at(bytes, at + 13),
-    }
-}
-
-// The eight areas, where the bytes may end before they do.
-fn areas_cut(bytes: &[u8]) -> [Area; 8]
-    ensures { λ r. ⌜ r ≡ areasFrom 8 20 (now (bytes .entry)) ⌝ }
-{
-    let none = Area {
-        koa: 0,
-        sad: 0,
-        ead: 0,
-        eau: 0,
-        wau: 0,
-    };
-    let mut areas = [none; 8];
-    let mut i = 0;
-    while i < 8 {
-        areas[i] = area_cut(bytes, 20 + 17 * i);
-        i += 1;
-    }
-    areas
-}
-
 // The eight areas in 156 bytes.
 fn areas_whole(profile: &[u8]) -> [Area; 8]
-    requires { ⌜ length (now profile) ≡ 156 ⌝ }
+    requires { ⌜ length (now profile) ≡ profileLength ⌝ }
     ensures { λ r. ⌜ r ≡ areasFrom 8 20 (now (profile .entry)) ⌝ }
 {
     [
@@ -84,11 +52,10 @@ fn areas_whole(profile: &[u8]) -> [Area; 8]
     ]
 }
 
-// The profile in 156 bytes: each place is known, so nothing is tested. The fields in front of the areas are read as in `cut`: one function for
-// both stays a call in the compiled code, which tests each field and copies the areas.
+// The profile in 156 bytes: each place is known, so nothing is tested.
 fn whole(profile: &[u8]) -> Profile
-    requires { ⌜ length (now profile) ≡ 156 ⌝ }
-    ensures { λ r. ⌜ r ≡ profileIn (now (profile .entry)) ⌝ }
+    requires { ⌜ length (now profile) ≡ profileLength ⌝ }
+    ensures { λ r. ⌜ r ≡ fieldsIn (now (profile .entry)) ⌝ }
 {
     Profile {
         areas: areas_whole(profile),
@@ -104,30 +71,34 @@ fn whole(profile: &[u8]) -> Profile
     }
 }
 
-// The profile in bytes of any number.
-fn cut(bytes: &[u8]) -> Profile
-    ensures { λ r. ⌜ r ≡ profileIn (now (bytes .entry)) ⌝ }
+// What stands for no profile.
+fn none() -> Profile
+    ensures { λ r. ⌜ r ≡ noProfile ⌝ }
 {
+    let unused = Area {
+        koa: 0,
+        sad: 0,
+        ead: 0,
+        eau: 0,
+        wau: 0,
+    };
     Profile {
-        areas: areas_cut(bytes),
-        noa: packet_fields::byte_at(bytes, 0),
-        sci: packet_fields::four_at(bytes, 4),
-        rmb: packet_fields::four_at(bytes, 8),
-        typ: packet_fields::byte_at(bytes, 1),
-        bfv: two_at(bytes, 2),
-        window: Window {
-            low: packet_fields::four_at(bytes, 12),
-            high: packet_fields::four_at(bytes, 16),
-        },
+        areas: [unused; 8],
+        noa: 0,
+        sci: 0,
+        rmb: 0,
+        typ: 0,
+        bfv: 0,
+        window: Window { low: 0, high: 0 },
     }
 }
 
-// The profile in the bytes; what they lack counts as 0.
+// The profile in the bytes; bytes of another length are none.
 pub fn profile_in(bytes: &[u8]) -> Profile
     ensures { λ r. ⌜ r ≡ profileIn (now (bytes .entry)) ⌝ }
 {
-    if bytes.len() == 156 {
+    if bytes.len() == PROFILE_LENGTH {
         return whole(bytes);
     }
-    cut(bytes)
+    none()
 }

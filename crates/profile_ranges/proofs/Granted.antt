@@ -3,7 +3,7 @@ use mathlib.Core.Bool.{Bool, true, false, _&&_, not}
 use mathlib.Core.List.{List}
 use mathlib.Core.Logic.{_↔_}
 use mathlib.Core.Path.{_≡_, refl, sym, ap, subst, _∙_}
-use Prim.Native.Nat.{ℕ, _+_, _%_, _≤_, _<_}
+use Prim.Native.Nat.{ℕ, _+_, _%_, _≤_}
 use native.Mathlib.Nat.{add-mod, zero-mod}
 use native.Mathlib.Omega.{arith}
 use lib.Dec.{leb, ltb, eqb}
@@ -22,7 +22,7 @@ use Rattle.profile.proofs.Table.{inside-bounds}
 use Rattle.profile.proofs.Places.{found-inside, area-has-place, inside-within}
 use Rattle.profile_ranges.specs.declared.Purpose.{Purpose}
 use Rattle.profile_ranges.specs.declared.Purpose.the-variants.{Erase, Write, Read}
-use Rattle.profile_ranges.specs.Ranges.{unitChecks, limited, windowChecks, changeChecks, purposeChecks, nowhere, areaAt, endChecks, rangeChecks, Permitted}
+use Rattle.profile_ranges.specs.Ranges.{unitChecks, limited, windowChecks, changeChecks, purposeChecks, nowhere, areaOf, endChecks, rangeChecks, Permitted}
 use Rattle.profile_ranges.specs.InArea.{InArea, Changeable, Allowed, Lies}
 
 -- that a check does not apply, before what is said of the later ones
@@ -84,8 +84,8 @@ module _ (areas : List Area) (w : Window) (purpose : Purpose) (s e : ℕ) where
   unfolding Permitted rangeChecks endChecks NoneApplies
   passed spot f p =
       let n : NoneApplies (rangeChecks areas w purpose s e) = clear (rangeChecks areas w purpose s e) p in
-      let area : areaAt (placeOf areas s) ≡ spot .area = ap areaAt f in
-      let t : inside (spot .area) e ≡ true = ap (λ (a : Area). inside a e) (sym area) ∙ not-false (inside (areaAt (placeOf areas s)) e) (n .1 .1 .1 .0) in
+      let area : areaOf (placeOf areas s) ≡ spot .area = ap areaOf f in
+      let t : inside (spot .area) e ≡ true = ap (λ (a : Area). inside a e) (sym area) ∙ not-false (inside (areaOf (placeOf areas s)) e) (n .1 .1 .1 .0) in
       let own : NoneApplies (purposeChecks purpose (spot .area) w s e) = subst (λ (a : Area). NoneApplies (purposeChecks purpose a w s e)) area (n .1 .1 .1 .1) in
       (ltb-false e s (n .0), t, purpose-passed purpose (spot .area) w s e own)
 
@@ -108,7 +108,7 @@ module _ (areas : List Area) (w : Window) (purpose : Purpose) (s e : ℕ) where
   unfolding rangeChecks endChecks NoneApplies
   passes spot i c =
       let t : inside (spot .area) e ≡ true = inside-within (spot .area) e (omega arith) (i .ends) in
-      let area : areaAt (placeOf areas s) ≡ spot .area = ap areaAt (i .found) in
+      let area : areaOf (placeOf areas s) ≡ spot .area = ap areaOf (i .found) in
       le-ltb e s (i .ordered)
       before ap nowhere (i .found)
       before somewhere (placeOf areas e) (area-has-place 0 areas s e spot (i .found) t)

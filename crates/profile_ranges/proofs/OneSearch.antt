@@ -8,7 +8,7 @@ use borrow.Author.Tests.{ltb-true, ltb-false, le-leb, lt-leb}
 use Rattle.verdict.specs.declared.Reason.{Reason}
 use Rattle.verdict.specs.declared.Verdict.{Verdict}
 use Rattle.verdict.specs.declared.Verdict.the-variants.{Granted, Refused}
-use Rattle.verdict.specs.Check.{firstFault, verdictOf}
+use Rattle.verdict.specs.Check.{firstFault, verdictOf, passes}
 use Rattle.verdict.proofs.FirstFault.{granted-clear, refused-fault}
 use Rattle.profile.specs.declared.Area.{Area}
 use Rattle.profile.specs.declared.Window.{Window}
@@ -18,7 +18,7 @@ use Rattle.profile.specs.Areas.{inside}
 use Rattle.profile.specs.Places.{placeOf}
 use Rattle.profile.proofs.Places.{area-has-place}
 use Rattle.profile_ranges.specs.declared.Purpose.{Purpose}
-use Rattle.profile_ranges.specs.Ranges.{purposeChecks, passes, withinOf, endChecks, rangeChecks}
+use Rattle.profile_ranges.specs.Ranges.{purposeChecks, withinOf, endChecks, rangeChecks}
 use Rattle.profile_ranges.specs.InArea.{StartsIn}
 use Rattle.profile_ranges.proofs.Granted.{somewhere}
 

@@ -1,13 +1,13 @@
 -- The checks on a range of addresses, SAD to EAD: D0h, then DAh. Commands and "a state fits" both use them.
 use mathlib.Core.Bool.{Bool, true, false, _&&_, not}
 use mathlib.Core.List.{List, [], _∷_, _++_}
-use mathlib.Core.Option.{Option, none, some}
+use mathlib.Core.Option.{none}
 use mathlib.Core.Path.{_≡_}
 use Prim.Native.Nat.{ℕ, _+_, _%_}
 use lib.Dec.{leb, ltb, eqb}
 use Rattle.verdict.specs.declared.Reason.{Reason}
 use Rattle.verdict.specs.declared.Reason.the-variants.{Reversed, StartNowhere, EndNowhere, TwoAreas, NoUnit, StartUnaligned, EndUnaligned, BelowWindow, AboveWindow}
-use Rattle.verdict.specs.Check.{Check, _gives_, firstFault}
+use Rattle.verdict.specs.Check.{Check, _gives_, firstFault, passes}
 use Rattle.profile.specs.declared.Area.{Area}
 use Rattle.profile.specs.declared.Window.{Window}
 use Rattle.profile.specs.declared.Place.{Place}
@@ -45,11 +45,6 @@ purposeChecks Erase a w s e = changeChecks a w (a .eau) s e
 purposeChecks Write a w s e = changeChecks a w (a .wau) s e
 purposeChecks Read a w s e = []
 
--- no fault was found
-abbrev pub passes : Option Reason → Bool
-passes none = true
-passes (some reason) = false
-
 -- a range that starts in area a may be asked for: a holds its end too, and no check of the purpose applies
 unfoldable pub withinOf : Area → Window → Purpose → ℕ → ℕ → Bool
 withinOf a w purpose s e = inside a e && passes (firstFault (purposeChecks purpose a w s e))
@@ -59,9 +54,9 @@ nowhere (In spot) = false
 nowhere Nowhere = true
 
 -- the area of a place that was found
-abbrev pub areaAt : Place → Area
-areaAt (In spot) = spot .area
-areaAt Nowhere = noArea
+abbrev pub areaOf : Place → Area
+areaOf (In spot) = spot .area
+areaOf Nowhere = noArea
 
 -- the checks of a range that starts in area a
 unfoldable pub endChecks : List Area → Area → Window → Purpose → ℕ → ℕ → List (Check Reason)
@@ -74,7 +69,7 @@ unfoldable pub rangeChecks : List Area → Window → Purpose → ℕ → ℕ �
 rangeChecks areas w purpose s e =
     (ltb e s gives Reversed)
     ∷ (nowhere (placeOf areas s) gives StartNowhere)
-    ∷ endChecks areas (areaAt (placeOf areas s)) w purpose s e
+    ∷ endChecks areas (areaOf (placeOf areas s)) w purpose s e
 
 -- a range that is granted
 unfoldable pub Permitted : List Area → Window → Purpose → ℕ → ℕ → Type 0

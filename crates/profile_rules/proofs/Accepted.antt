@@ -1,8 +1,8 @@
 -- A profile is accepted exactly when it is sound, and then no address lies in two of its areas. Assumes nothing.
-use mathlib.Core.Bool.{true, false, not}
+use mathlib.Core.Bool.{Bool, true, false, not}
 use mathlib.Core.List.{List, [], _∷_, _++_}
 use mathlib.Core.Option.{none}
-use mathlib.Core.Path.{_≡_, refl, ap, _∙_}
+use mathlib.Core.Path.{_≡_, refl, ap, subst, _∙_}
 use Prim.Native.Nat.{ℕ, zero, suc, _+_, _≤_, _<_}
 use native.Mathlib.Omega.{arith}
 use lib.ListN.{length, getD}
@@ -11,7 +11,10 @@ use Rattle.verdict.specs.Check.{firstFault, NoneApplies}
 use Rattle.verdict.proofs.FirstFault.{clear, grants, clear-left, clear-right, fault-right}
 use Rattle.profile.specs.declared.Area.{Area}
 use Rattle.profile.specs.declared.Profile.{Profile}
-use Rattle.profile.specs.Areas.{areasOf, noArea, inside}
+use Rattle.profile.specs.declared.Spot.{Spot}
+use Rattle.profile.specs.declared.Place.the-variants.{In}
+use Rattle.profile.specs.Areas.{areasOf, noArea, sizeOf, inside}
+use Rattle.profile.specs.Places.{placeFrom}
 use Rattle.profile.proofs.Table.{inside-bounds}
 use Rattle.profile_rules.specs.declared.Acceptance.the-variants.{Acceptable}
 use Rattle.profile_rules.specs.Rules.{acceptanceOf, headChecks, areaChecks, tableChecks, tailChecks, countedChecks, profileChecks, Accepted}
@@ -138,3 +141,16 @@ one-area free (a ∷ more) s x (suc j) zero hj hk t u =
     let f = apart free a more s x j (omega arith) u in
     let z : _≡_ {A = ℕ} 0 1 = cc in absurd (omega arith)
 one-area free (a ∷ more) s x (suc j) (suc k) hj hk t u = ap suc (one-area (a .ead + 1) more (s .1) x j k (omega arith) (omega arith) t u)
+
+-- an area of the table that was found ends below FFFFFFFFh
+pub below-top : (free base : ℕ) (areas : List Area) (x : ℕ) (spot : Spot) → Ascending free areas → placeFrom base areas x ≡ In spot → spot .area .ead < 0xFFFFFFFF
+unfolding Ascending placeFrom
+below-top free base [] x spot s e = let z : _≡_ {A = ℕ} 0 1 = cc in absurd (omega arith)
+below-top free base (a ∷ more) x spot s e = go (inside a x) refl (below-top (a .ead + 1) (base + sizeOf a) more x spot (s .1))
+  where
+    go : (t : Bool) → inside a x ≡ t → (placeFrom (base + sizeOf a) more x ≡ In spot → spot .area .ead < 0xFFFFFFFF) → spot .area .ead < 0xFFFFFFFF
+    go true i later =
+        let here : In (record { area = a; base = base }) ≡ In spot = rw i at e in
+        let it : record { area = a; base = base } ≡ spot = cc in
+        subst (λ (k : Spot). k .area .ead < 0xFFFFFFFF) it (s .0 .below-top)
+    go false i later = later (rw i at e)

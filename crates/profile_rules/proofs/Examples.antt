@@ -1,8 +1,6 @@
 -- Profiles that are known to be acceptable, and profiles that each break one rule, in one table. Assumes nothing.
-use mathlib.Core.Bool.{Bool, true, false, not, cond, _&&_, _||_}
-use mathlib.Core.List.{List, [], _∷_, _++_, map}
+use mathlib.Core.List.{List, [], _∷_, map}
 use mathlib.Core.Path.{_≡_, refl}
-use Prim.Native.Nat.{ℕ}
 use lib.ListN.{replicate}
 use Rattle.verdict.specs.Check.{firstFault}
 use Rattle.profile.specs.declared.Profile.{Profile}

@@ -3,73 +3,52 @@ use mathlib.Core.List.{List}
 use mathlib.Core.Path.{_≡_, refl, sym, ap, subst, _∙_}
 use Prim.Native.Nat.{ℕ}
 use lib.ListN.{length}
-use Rattle.verdict.specs.Check.{firstFault}
 use Rattle.profile.specs.declared.Profile.{Profile}
-use Rattle.recording.specs.declared.Part.{Part}
-use Rattle.recording.specs.declared.Found.{Found}
-use Rattle.recording.specs.declared.Found.the-variants.{Host, Device, Reset, End, Unreadable}
-use Rattle.recording.specs.Recording.{bytesIn}
 use Rattle.state.specs.declared.State.{State}
 use Rattle.state.specs.State.{freshState}
 use Rattle.device_calls.specs.declared.Refusal.{Refusal}
 use Rattle.device_calls.specs.declared.Started.{Started}
-use Rattle.device_calls.specs.Calls.{startRows, refusalOf, resetBy}
-use Rattle.device_steps.specs.Step.{Machine, machineOf}
+use Rattle.device_calls.specs.Calls.{Lent, startRefusal, startedAt, startedBy}
 use Rattle.device_calls.specs.Ready.{Ready}
-use Rattle.device.proofs.NextCall.{fresh-ready}
 use Rattle.device_calls.proofs.Rows.{start-accepts}
-use Rattle.record_history.specs.History.{freshOf, hearing, machineAfter, repliesOver, bufferAfter, callsOf}
+use Rattle.device_steps.specs.Step.{Machine, machineOf}
+use Rattle.device.proofs.NextCall.{fresh-ready}
+use Rattle.recording.specs.declared.Found.{Found}
+use Rattle.record_history.specs.History.{freshOf, machineAfter, bufferAfter}
 use Rattle.record_driver.specs.Stands.{Stands, callsAt}
 
--- what one record leaves
-module _ (p : Profile) (m : Machine) (script rp₀ : List ℕ) (st : State) (im rc rp : List ℕ) where
-  abbrev Called : Found → Type 0
-  Called found = Stands p (machineAfter p m (callsAt script found)) (bufferAfter p m (callsAt script found) rp₀) st im rc rp
+-- a record by what was found
+pub called : (m : Machine) (buffer script : List ℕ) {p : Profile} {st : State} {l : Lent} {found f : Found} → found ≡ f
+    → Stands p (machineAfter p m (callsAt script f)) (bufferAfter p m (callsAt script f) buffer) st l
+    → Stands p (machineAfter p m (callsAt script found)) (bufferAfter p m (callsAt script found) buffer) st l
+called m buffer script {p} {st} {l} e s =
+    subst (λ (x : Found). Stands p (machineAfter p m (callsAt script x)) (bufferAfter p m (callsAt script x) buffer) st l) (sym e) s
 
-  pub called-host : (found : Found) (part : Part) → found ≡ Host part
-      → Stands p (hearing p m (bytesIn part script)) (repliesOver p m (bytesIn part script) rp₀) st im rc rp → Called found
-  unfolding machineAfter bufferAfter callsOf
-  called-host found part e s = subst Called (sym e) s
-
-  pub called-reset : (found : Found) (part : Part) → found ≡ Reset part → Stands p (freshOf p (m .image)) rp₀ st im rc rp → Called found
-  unfolding machineAfter bufferAfter callsOf
-  called-reset found part e s = subst Called (sym e) s
+-- calls that led to this machine and these replies; no call leads to where it begins
+pub stands-at : {p : Profile} {st : State} {l : Lent} {m : Machine} {replies : List ℕ} → Ready p st l → m ≡ machineOf st l → replies ≡ l .reply
+    → Stands p m replies st l
+stands-at q e f =
+    record {
+      state = sym (ap (λ (k : Machine). k .state) e);
+      image = sym (ap (λ (k : Machine). k .image) e);
+      held = sym (ap (λ (k : Machine). k .held) e);
+      reply = sym f;
+      ready = q;
+    }
 
 -- a fresh state is the fresh machine
-pub fresh-machine : (p : Profile) (im rc : List ℕ) → machineOf im (freshState p) rc ≡ freshOf p im
+pub fresh-machine : (p : Profile) (l : Lent) → machineOf (freshState p) l ≡ freshOf p (l .image)
 unfolding freshState
-fresh-machine p im rc = refl
+fresh-machine p l = refl
 
-fresh-stands : (p : Profile) (im rc rp : List ℕ) → Ready p (length im) (freshState p) rc (length rp) → Stands p (freshOf p im) rp (freshState p) im rc rp
-fresh-stands p im rc rp q =
-    record { state = refl; image = refl; held = ap (λ (k : Machine). k .held) (fresh-machine p im rc); reply = refl; ready = q }
-
--- a record that calls nothing, and no record
-module _ (p : Profile) (script : List ℕ) (st : State) (im rc rp : List ℕ) (q : Ready p (length im) st rc (length rp)) where
-  abbrev Passed : Found → Type 0
-  Passed found = Stands p (machineAfter p (machineOf im st rc) (callsAt script found)) (bufferAfter p (machineOf im st rc) (callsAt script found) rp) st im rc rp
-
-  pub called-device : (found : Found) (part : Part) → found ≡ Device part → Passed found
-  unfolding machineAfter bufferAfter callsOf
-  called-device found part e = subst Passed (sym e) (record { state = refl; image = refl; held = refl; reply = refl; ready = q })
-
-  pub called-end : (found : Found) → found ≡ End → Passed found
-  unfolding machineAfter bufferAfter callsOf
-  called-end found e = subst Passed (sym e) (record { state = refl; image = refl; held = refl; reply = refl; ready = q })
-
-  pub called-unreadable : (found : Found) → found ≡ Unreadable → Passed found
-  unfolding machineAfter bufferAfter callsOf
-  called-unreadable found e = subst Passed (sym e) (record { state = refl; image = refl; held = refl; reply = refl; ready = q })
-
-  -- a reset is accepted: the state is fresh, the image is as it was
-  pub reset-stands : (r : Started) → r ≡ resetBy (refusalOf (firstFault (startRows p (length im)))) p st
-      → Stands p (freshOf p im) rp (r .state) im rc rp
-  reset-stands r e = subst (λ (s : State). Stands p (freshOf p im) rp s im rc rp) (sym fresh) stands
-    where
-      fresh : r .state ≡ freshState p
-      fresh =
-          ap (λ (x : Started). x .state) e
-          ∙ ap (λ (row : Refusal). resetBy row p st .state) (start-accepts p (length im) (q .profile) (q .image))
-
-      stands : Stands p (freshOf p im) rp (freshState p) im rc rp
-      stands = fresh-stands p im rc rp (fresh-ready p (length im) (length rp) rc (q .profile) (q .image) (q .receive) (q .reply))
+-- a reset is accepted: the state is fresh, the image is as it was
+pub reset-stands : {p : Profile} {st : State} {l : Lent} {r : Started} → Ready p st l → r ≡ startedBy (startRefusal p (length (l .image))) p st
+    → Stands p (freshOf p (l .image)) (l .reply) (r .state) l
+reset-stands {p} {st} {l} {r} q e =
+    subst (λ (s : State). Stands p (freshOf p (l .image)) (l .reply) s l) (sym fresh)
+    (stands-at (fresh-ready p l (q .profile) (q .image) (q .receive) (q .reply)) (sym (fresh-machine p l)) refl)
+  where
+    fresh : r .state ≡ freshState p
+    fresh =
+        ap (λ (x : Started). x .state) e
+        ∙ ap (λ (x : Refusal). startedAt x p st) (start-accepts p (length (l .image)) (q .profile) (q .image))

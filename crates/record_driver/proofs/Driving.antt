@@ -1,150 +1,117 @@
--- A script from the start on: what a refusal leaves, and what playing it leaves. Assumes nothing.
-use mathlib.Core.Bool.{false}
+-- A script from the start on: what a refusal leaves, and what driving it leaves. Assumes nothing.
+use mathlib.Core.Bool.{Bool, true, false, not}
 use mathlib.Core.List.{List, []}
 use mathlib.Core.Path.{_≡_, refl, sym, ap, subst, _∙_}
 use Prim.Native.Nat.{ℕ}
-use native.Mathlib.Omega.{arith}
 use lib.ListN.{length}
-use Rattle.verdict.specs.Check.{firstFault}
+use borrow.Author.Tests.{not-true, not-false}
 use Rattle.profile.specs.declared.Profile.{Profile}
-use Rattle.recording.specs.Recording.{recordsOf}
+use Rattle.packet.specs.Frame.{front}
+use Rattle.packet.proofs.Laws.{impossible}
 use Rattle.state.specs.declared.State.{State}
-use Rattle.state.specs.State.{freshState}
-use Rattle.device.specs.declared.Fed.{Fed}
+use Rattle.state.specs.State.{freshState, zeroState}
 use Rattle.device_calls.specs.declared.Refusal.{Refusal}
-use Rattle.device_calls.specs.declared.Refusal.the-variants.{Accepted, Unacceptable, WrongImage, WrongState, ShortReceive, ShortReply}
+use Rattle.device_calls.specs.declared.Refusal.the-variants.{Accepted, By}
 use Rattle.device_calls.specs.declared.Started.{Started}
-use Rattle.device_calls.specs.Calls.{numberOf, isAccepted, startRows, bufferRows, feedRows, refusalOf, startedAt, startedBy}
-use Rattle.device_steps.specs.Step.{Machine, machineOf}
-use Rattle.device_steps.specs.Feed.{feedOf}
-use Rattle.device.specs.Post.{FedBy}
+use Rattle.device_calls.specs.Calls.{Lent, isAccepted, startRows, bufferRows, startRefusal, feedRefusal, startedAt, startedBy}
 use Rattle.device_calls.specs.Ready.{Ready}
-use Rattle.device_calls.proofs.Rows.{stops, rows-ready}
-use Rattle.answer_waking.proofs.Woken.{front-nothing}
-use Rattle.record_driver.specs.declared.Driven.{Driven}
+use Rattle.device_calls.proofs.Rows.{is-accepted, feed-rows, stops, rows-ready}
+use Rattle.device_steps.specs.Step.{machineOf}
+use Rattle.device_steps.specs.Feed.{feedOf}
+use Rattle.device.specs.declared.Fed.{Fed}
+use Rattle.device.specs.Post.{FedBy, Feeds}
+use Rattle.recording.specs.Recording.{recordsOf}
 use Rattle.record_history.specs.History.{freshOf, callsOf}
-use Rattle.record_driver.specs.Post.{Played, Ran, DrivenBy}
-use Rattle.record_driver.proofs.Called.{fresh-machine}
 use Rattle.record_history.proofs.Replayed.{replayed}
+use Rattle.record_driver.specs.declared.Driven.{Driven}
+use Rattle.record_driver.specs.Post.{DroveOn, Drove, DrivenBy, Drives}
+use Rattle.record_driver.proofs.Called.{fresh-machine}
 
--- the number 0 is that of an accepted call
-pub numbered : (row : Refusal) → numberOf row ≡ 0 → row ≡ Accepted
-numbered Accepted e = refl
-numbered Unacceptable e = absurd (omega (arith, e))
-numbered WrongImage e = absurd (omega (arith, e))
-numbered WrongState e = absurd (omega (arith, e))
-numbered ShortReceive e = absurd (omega (arith, e))
-numbered ShortReply e = absurd (omega (arith, e))
+-- a delivery of no bytes tells the refusal, and leaves all as it was
+record Tried (refusal : Refusal) (before after : Lent) (r : Fed) : Type 0 where
+  told : r .refusal ≡ refusal
+  lent : after ≡ before
 
-unnumbered : (row : Refusal) → (numberOf row ≡ 0 → ⊥) → isAccepted row ≡ false
-unnumbered Accepted h = absurd (h refl)
-unnumbered Unacceptable h = refl
-unnumbered WrongImage h = refl
-unnumbered WrongState h = refl
-unnumbered ShortReceive h = refl
-unnumbered ShortReply h = refl
-
--- a delivery of no bytes tells the row, and leaves all as it was
-pub record Tried (row : Refusal) (r : Fed) (im₀ im rc₀ rc rp₀ rp : List ℕ) : Type 0 where
-  pub refusal : r .refusal ≡ row
-  pub image : im ≡ im₀
-  pub receive : rc ≡ rc₀
-  pub reply : rp ≡ rp₀
-
-module _ (p : Profile) (st : State) (r : Fed) (im₀ im rc₀ rc rp₀ rp : List ℕ) where
-  pub tried : (row : Refusal) → FedBy row (feedOf p (machineOf im₀ st rc₀) []) [] st r im₀ im rc₀ rc rp₀ rp → Tried row r im₀ im rc₀ rc rp₀ rp
-  unfolding feedOf
-  tried Accepted f = record { refusal = f .refusal; image = f .image; receive = f .idle refl; reply = f .reply ∙ sym (front-nothing rp₀) }
-  tried Unacceptable f = record { refusal = ap (λ (x : Fed). x .refusal) (f .is); image = f .image; receive = f .receive; reply = f .reply }
-  tried WrongImage f = record { refusal = ap (λ (x : Fed). x .refusal) (f .is); image = f .image; receive = f .receive; reply = f .reply }
-  tried WrongState f = record { refusal = ap (λ (x : Fed). x .refusal) (f .is); image = f .image; receive = f .receive; reply = f .reply }
-  tried ShortReceive f = record { refusal = ap (λ (x : Fed). x .refusal) (f .is); image = f .image; receive = f .receive; reply = f .reply }
-  tried ShortReply f = record { refusal = ap (λ (x : Fed). x .refusal) (f .is); image = f .image; receive = f .receive; reply = f .reply }
+tried : (refusal : Refusal) (p : Profile) (st : State) (before after : Lent) (r : Fed) → FedBy refusal (feedOf p (machineOf st before) []) [] st before after r
+    → Tried refusal before after r
+unfolding feedOf front
+tried Accepted p st before after r f =
+    record {
+      told = f .refusal;
+      lent =
+          ap (λ (x : List ℕ). record { image = x; receive = after .receive; reply = after .reply }) (f .image)
+          ∙ ap (λ (x : List ℕ). record { image = before .image; receive = x; reply = after .reply }) (f .idle refl)
+          ∙ ap (λ (x : List ℕ). record { image = before .image; receive = before .receive; reply = x }) (f .reply);
+    }
+tried (By row) p st before after r f = record { told = ap (λ (x : Fed). x .refusal) (f .is); lent = f .lent }
 
 -- a refused script
-module _ (p : Profile) (script : List ℕ) (r : Driven) (im₀ im rc₀ rc rp₀ rp : List ℕ) where
-  stopped-by : (row : Refusal) → (numberOf row ≡ 0 → ⊥) → r ≡ record { refusal = row; state = startedAt (refusalOf (firstFault (startRows p (length im₀)))) p; read = 0 }
-      → im ≡ im₀ → rc ≡ rc₀ → rp ≡ rp₀ → DrivenBy row p script r im₀ im rc₀ rc rp₀ rp
-  stopped-by Accepted h e a b c = absurd (h refl)
-  stopped-by Unacceptable h e a b c = record { is = e; image = a; receive = b; reply = c }
-  stopped-by WrongImage h e a b c = record { is = e; image = a; receive = b; reply = c }
-  stopped-by WrongState h e a b c = record { is = e; image = a; receive = b; reply = c }
-  stopped-by ShortReceive h e a b c = record { is = e; image = a; receive = b; reply = c }
-  stopped-by ShortReply h e a b c = record { is = e; image = a; receive = b; reply = c }
+undriven : (refusal : Refusal) (p : Profile) (script : List ℕ) (before after : Lent) (r : Driven) → isAccepted refusal ≡ false
+    → r ≡ record { refusal = refusal; state = startedAt (startRefusal p (length (before .image))) p zeroState; read = 0 } → after ≡ before
+    → DrivenBy refusal p script before after r
+undriven Accepted p script before after r h e l = impossible (cc)
+undriven (By row) p script before after r h e l = record { is = e; lent = l }
 
--- what starting answered, and the number of its refusal
-module _ (p : Profile) (script im rc rp : List ℕ) (begun : Started) (k : ℕ)
-    (e : begun ≡ startedBy (refusalOf (firstFault (startRows p (length im)))) p) (n : k ≡ numberOf (begun .refusal)) where
-  -- the rows: of starting, and of feeding a fresh state
+-- what starting answered, and whether it was accepted
+module _ (p : Profile) (l : Lent) {begun : Started} {t : Bool} (e : begun ≡ startedBy (startRefusal p (length (l .image))) p zeroState)
+    (a : t ≡ isAccepted (begun .refusal)) where
+  -- the refusals: of starting, and of feeding a fresh state
   abbrev first : Refusal
-  first = refusalOf (firstFault (startRows p (length im)))
+  first = startRefusal p (length (l .image))
 
   abbrev row : Refusal
-  row = refusalOf (firstFault (feedRows p (length im) (freshState p) rc (length rp)))
+  row = feedRefusal p (freshState p) l
 
-  told : begun .refusal ≡ first
-  told = ap (λ (x : Started). x .refusal) e
+  begins : t ≡ isAccepted first
+  begins = a ∙ ap (λ (x : Started). isAccepted (x .refusal)) e
 
-  begins : begun .state ≡ startedAt first p
-  begins = ap (λ (x : Started). x .state) e
+  state : begun .state ≡ startedAt first p zeroState
+  state = ap (λ (x : Started). x .state) e
 
   -- a refused start
-  pub unstarted : (k ≡ 0 → ⊥) → DrivenBy row p script (record { refusal = begun .refusal; state = begun .state; read = 0 }) im im rc rc rp rp
-  unfolding feedRows
-  unstarted h =
-      let bad : numberOf first ≡ 0 → ⊥ = λ z. h (n ∙ ap numberOf told ∙ z) in
-      let same : row ≡ first = stops (startRows p (length im)) (bufferRows p (freshState p) rc (length rp)) (unnumbered first bad) in
-      subst (λ (x : Refusal). DrivenBy x p script (record { refusal = begun .refusal; state = begun .state; read = 0 }) im im rc rc rp rp) (sym same)
-      (stopped-by p script _ im im rc rc rp rp first bad
-      (ap (λ (x : Started). record { refusal = x .refusal; state = x .state; read = 0 }) e) refl refl refl)
+  pub unstarted : (script : List ℕ) → not t ≡ true → Drives p script l l (record { refusal = begun .refusal; state = begun .state; read = 0 })
+  unstarted script h =
+      let bad : isAccepted first ≡ false = sym begins ∙ not-true t h in
+      let same : row ≡ first =
+      feed-rows p (freshState p) l ∙ stops (startRows p (length (l .image))) (bufferRows p (freshState p) (l .receive) (length (l .reply))) bad in
+      subst (λ (x : Refusal). DrivenBy x p script l l (record { refusal = begun .refusal; state = begun .state; read = 0 })) (sym same)
+      (undriven first p script l l _ bad (ap (λ (x : Started). record { refusal = x .refusal; state = x .state; read = 0 }) e) refl)
 
   -- a start, and a delivery of no bytes
-  module _ (z : k ≡ 0) (fed : Fed) (im′ rc′ rp′ : List ℕ)
-      (f : FedBy (refusalOf (firstFault (feedRows p (length im) (begun .state) rc (length rp)))) (feedOf p (machineOf im (begun .state) rc) []) [] (begun .state) fed im im′ rc rc′ rp rp′)
-      (j : ℕ) (l : j ≡ numberOf (fed .refusal)) where
-    started : first ≡ Accepted
-    started = sym told ∙ numbered (begun .refusal) (sym n ∙ z)
-
+  module _ (y : not t ≡ false) (fed : Fed) (l′ : Lent) (f : Feeds p (begun .state) [] l l′ fed) {u : Bool} (b : u ≡ isAccepted (fed .refusal)) where
     fresh : begun .state ≡ freshState p
-    fresh = begins ∙ ap (λ (x : Refusal). startedAt x p) started
+    fresh = state ∙ ap (λ (x : Refusal). startedAt x p zeroState) (is-accepted first (sym begins ∙ not-false t y))
 
-    attempt : Tried row fed im im′ rc rc′ rp rp′
-    attempt =
-        subst (λ (s : State). Tried (refusalOf (firstFault (feedRows p (length im) s rc (length rp)))) fed im im′ rc rc′ rp rp′) fresh
-        (tried p (begun .state) fed im im′ rc rc′ rp rp′ _ f)
+    attempt : Tried row l l′ fed
+    attempt = subst (λ (s : State). Tried (feedRefusal p s l) l l′ fed) fresh (tried _ p (begun .state) l l′ fed f)
+
+    fed-told : u ≡ isAccepted row
+    fed-told = b ∙ ap isAccepted (attempt .told)
 
     -- refused
-    pub unfed : (j ≡ 0 → ⊥) → DrivenBy row p script (record { refusal = fed .refusal; state = begun .state; read = 0 }) im im′ rc rc′ rp rp′
-    unfed h =
-        let bad : numberOf row ≡ 0 → ⊥ = λ y. h (l ∙ ap numberOf (attempt .refusal) ∙ y) in
-        stopped-by p script _ im im′ rc rc′ rp rp′ row bad
-        (ap (λ (x : Refusal). record { refusal = x; state = begun .state; read = 0 }) (attempt .refusal)
-        ∙ ap (λ (s : State). record { refusal = row; state = s; read = 0 }) begins)
-        (attempt .image) (attempt .receive) (attempt .reply)
+    pub unfed : (script : List ℕ) → not u ≡ true → Drives p script l l′ (record { refusal = fed .refusal; state = begun .state; read = 0 })
+    unfed script h =
+        undriven row p script l l′ _ (sym fed-told ∙ not-true u h)
+        (ap (λ (x : Refusal). record { refusal = x; state = begun .state; read = 0 }) (attempt .told)
+        ∙ ap (λ (s : State). record { refusal = row; state = s; read = 0 }) state)
+        (attempt .lent)
 
     -- accepted
-    module _ (y : j ≡ 0) where
+    module _ (z : not u ≡ false) where
       accepted : row ≡ Accepted
-      accepted = sym (attempt .refusal) ∙ numbered (fed .refusal) (sym l ∙ y)
+      accepted = is-accepted row (sym fed-told ∙ not-false u z)
 
-      pub begun-ready : Ready p (length im′) (begun .state) rc′ (length rp′)
-      begun-ready =
-          rw (fresh, attempt .image, attempt .receive, attempt .reply) (rows-ready p (length im) (freshState p) rc (length rp) accepted)
+      pub begun-ready : Ready p (begun .state) l′
+      begun-ready = rw (fresh, attempt .lent) (rows-ready p (freshState p) l accepted)
 
-      pub driven : (r : Driven) (im″ rc″ rp″ : List ℕ) → Played p (machineOf im′ (begun .state) rc′) script r im″ rc″ rp′ rp″
-          → DrivenBy row p script r im im″ rc rc″ rp rp″
-      driven r im″ rc″ rp″ played =
-          subst (λ (x : Refusal). DrivenBy x p script r im im″ rc rc″ rp rp″) (sym accepted)
-          (ran-from (subst (λ (m : Machine). Played p m script r im″ rc″ rp rp″) machine (subst (λ (b : List ℕ). Played p (machineOf im′ (begun .state) rc′) script r im″ rc″ b rp″) (attempt .reply) played)))
+      pub driven : {script : List ℕ} {r : Driven} {after : Lent} → DroveOn p (machineOf (begun .state) l′) script l′ after r → Drives p script l after r
+      driven {script} {r} {after} on = subst (λ (x : Refusal). DrivenBy x p script l after r) (sym accepted) (drove (rw (fresh, attempt .lent, fresh-machine p l) at on))
         where
-          machine : machineOf im′ (begun .state) rc′ ≡ freshOf p im
-          machine = ap (λ (s : State). machineOf im′ s rc′) fresh ∙ fresh-machine p im′ rc′ ∙ ap (λ (b : List ℕ). freshOf p b) (attempt .image)
-
-          ran-from : Played p (freshOf p im) script r im″ rc″ rp rp″ → Ran p script r im im″ rc″ rp rp″
-          ran-from q =
+          drove : DroveOn p (freshOf p (l .image)) script l after r → Drove p script l after r
+          drove q =
               record {
                 refusal = q .refusal;
-                image = q .stands .image ∙ replayed p im (callsOf (recordsOf script));
+                image = q .stands .image ∙ replayed p (l .image) (callsOf (recordsOf script));
                 machine = q .stands .image;
                 state = q .stands .state;
                 held = q .stands .held;

@@ -5,28 +5,38 @@ use Prim.Native.Nat.{ℕ, _≤_, _<_}
 use native.Mathlib.Omega.{arith}
 use lib.ListN.{length}
 use Rattle.profile.specs.declared.Profile.{Profile}
-use Rattle.recording.specs.declared.Found.{Found}
-use Rattle.recording.specs.declared.Found.the-variants.{Host, Device, Reset, End, Unreadable}
-use Rattle.recording.specs.Recording.{Record, foundAt, continued, stopped, recordsFrom, recordsOf, stopFrom, readable}
-use Rattle.recording.proofs.Reading.{Lies, lies, records-onward, stop-onward}
 use Rattle.state.specs.declared.State.{State}
 use Rattle.device_calls.specs.declared.Refusal.the-variants.{Accepted}
-use Rattle.device_steps.specs.Step.{Machine, machineOf}
+use Rattle.device_calls.specs.Calls.{Lent}
 use Rattle.device_calls.specs.Ready.{Ready}
+use Rattle.device_steps.specs.Step.{Machine, machineOf}
+use Rattle.device.proofs.Turns.{machine-eq}
+use Rattle.recording.specs.declared.Found.{Found}
+use Rattle.recording.specs.declared.Found.the-variants.{Host, Device, Reset, End, Unreadable}
+use Rattle.recording.specs.Recording.{Record, foundAt, continued, stopped, recordsFrom, recordsOf, stopFrom, readable, Inside}
+use Rattle.recording.proofs.Reading.{Lies, lies, records-onward, stop-onward}
 use Rattle.record_history.specs.History.{machineAfter, bufferAfter, callsOf}
-use Rattle.record_driver.specs.Stands.{Stands, Inside, callsAt}
-use Rattle.record_driver.specs.Post.{Played}
-use Rattle.record_driver.proofs.Deliveries.{machine-eq}
+use Rattle.record_driver.specs.Stands.{Stands, callsAt}
+use Rattle.record_driver.specs.Post.{DroveOn}
+use Rattle.record_driver.proofs.Called.{stands-at}
+
+-- what was found at a place lies behind it, inside the script
+module _ (s : List ℕ) (at : ℕ) {found : Found} (e : found ≡ foundAt s at) where
+  pub lie : Lies at (length s) found
+  lie = subst (Lies at (length s)) (sym e) (lies s at)
+
+  pub inside : Inside (length s) found
+  inside = inside-in found lie
+    where
+      inside-in : (f : Found) → Lies at (length s) f → Inside (length s) f
+      inside-in (Host part) l = (l .order, l .fits)
+      inside-in (Device part) l = (l .order, l .fits)
+      inside-in (Reset part) l = (l .order, l .fits)
+      inside-in End l = tt
+      inside-in Unreadable l = tt
 
 -- where a record that was found leads
 module _ (s : List ℕ) (at : ℕ) where
-  inside-in : (f : Found) → Lies at (length s) f → Inside (length s) f
-  inside-in (Host part) l = (l .order, l .fits)
-  inside-in (Device part) l = (l .order, l .fits)
-  inside-in (Reset part) l = (l .order, l .fits)
-  inside-in End l = tt
-  inside-in Unreadable l = tt
-
   onward-in : (f : Found) → Lies at (length s) f → (stopped (λ to. to) at f ≡ at → ⊥) → (at < stopped (λ to. to) at f) × (stopped (λ to. to) at f ≤ length s)
   onward-in (Host part) l h = (omega arith, l .fits)
   onward-in (Device part) l h = (omega arith, l .fits)
@@ -69,28 +79,25 @@ module _ (s : List ℕ) (at : ℕ) where
   buffer-in p m Unreadable rp h = absurd (h refl)
 
 -- what the records before a place have done: the rest goes on from there
-pub record Playing (p : Profile) (im₀ rc₀ rp₀ s : List ℕ) (st₀ : State) (im rc rp : List ℕ) (st : State) (at : ℕ) : Type 0 where
+pub record Playing (p : Profile) (l₀ : Lent) (s : List ℕ) (st₀ : State) (l : Lent) (st : State) (at : ℕ) : Type 0 where
   pub within : at ≤ length s
-  pub ready : Ready p (length im) st rc (length rp)
-  pub image : length im ≡ length im₀
-  pub receive : length rc ≡ length rc₀
-  pub reply : length rp ≡ length rp₀
-  pub machine : machineAfter p (machineOf im₀ st₀ rc₀) (callsOf (recordsOf s)) ≡ machineAfter p (machineOf im st rc) (callsOf (recordsFrom s at))
-  pub replies : bufferAfter p (machineOf im₀ st₀ rc₀) (callsOf (recordsOf s)) rp₀ ≡ bufferAfter p (machineOf im st rc) (callsOf (recordsFrom s at)) rp
+  pub ready : Ready p st l
+  pub image : length (l .image) ≡ length (l₀ .image)
+  pub receive : length (l .receive) ≡ length (l₀ .receive)
+  pub reply : length (l .reply) ≡ length (l₀ .reply)
+  pub machine : machineAfter p (machineOf st₀ l₀) (callsOf (recordsOf s)) ≡ machineAfter p (machineOf st l) (callsOf (recordsFrom s at))
+  pub replies : bufferAfter p (machineOf st₀ l₀) (callsOf (recordsOf s)) (l₀ .reply) ≡ bufferAfter p (machineOf st l) (callsOf (recordsFrom s at)) (l .reply)
   pub read : readable s ≡ stopFrom s at
 
 -- before the first record
-pub playing-none : (p : Profile) (im rc rp s : List ℕ) (st : State) → Ready p (length im) st rc (length rp) → Playing p im rc rp s st im rc rp st 0
-playing-none p im rc rp s st r =
+pub playing-none : {p : Profile} {l : Lent} {s : List ℕ} {st : State} → Ready p st l → Playing p l s st l st 0
+playing-none r =
     record { within = omega arith; ready = r; image = refl; receive = refl; reply = refl; machine = refl; replies = refl; read = refl }
 
-module _ {p : Profile} {im₀ rc₀ rp₀ s : List ℕ} {st₀ : State} {im rc rp : List ℕ} {st : State} {at : ℕ} (t : Playing p im₀ rc₀ rp₀ s st₀ im rc rp st at)
-    (found : Found) (next : ℕ) (e : found ≡ foundAt s at) (n : next ≡ stopped (λ to. to) at found) where
+module _ {p : Profile} {l₀ : Lent} {s : List ℕ} {st₀ : State} {l : Lent} {st : State} {at : ℕ} (t : Playing p l₀ s st₀ l st at) {found : Found} {next : ℕ}
+    (e : found ≡ foundAt s at) (n : next ≡ stopped (λ to. to) at found) where
   abbrev m : Machine
-  m = machineOf im st rc
-
-  lie : Lies at (length s) found
-  lie = subst (Lies at (length s)) (sym e) (lies s at)
+  m = machineOf st l
 
   records-here : recordsFrom s at ≡ continued (recordsFrom s) s found
   records-here = records-onward s at ∙ ap (continued (recordsFrom s) s) (sym e)
@@ -98,25 +105,18 @@ module _ {p : Profile} {im₀ rc₀ rp₀ s : List ℕ} {st₀ : State} {im rc r
   stop-here : stopFrom s at ≡ stopped (stopFrom s) at found
   stop-here = stop-onward s at ∙ ap (stopped (stopFrom s) at) (sym e)
 
-  pub inside : Inside (length s) found
-  inside = inside-in s at found lie
-
   -- no record stands here
-  pub played-all : next ≡ at → Played p (machineOf im₀ st₀ rc₀) s (record { refusal = Accepted; state = st; read = at }) im rc rp₀ rp
+  pub played-all : next ≡ at → DroveOn p (machineOf st₀ l₀) s l₀ l (record { refusal = Accepted; state = st; read = at })
   unfolding machineAfter bufferAfter callsOf
   played-all h =
-      let over = over-in s at found lie (sym n ∙ h) in
+      let over = over-in s at found (lie s at e) (sym n ∙ h) in
       let none : recordsFrom s at ≡ [] = records-here ∙ over .0 in
-      let k : machineAfter p (machineOf im₀ st₀ rc₀) (callsOf (recordsOf s)) ≡ m = t .machine ∙ ap (λ (rs : List Record). machineAfter p m (callsOf rs)) none in
       record {
         refusal = refl;
-        stands = record {
-          state = sym (ap (λ (x : Machine). x .state) k);
-          image = sym (ap (λ (x : Machine). x .image) k);
-          held = sym (ap (λ (x : Machine). x .held) k);
-          reply = sym (t .replies ∙ ap (λ (rs : List Record). bufferAfter p m (callsOf rs) rp) none);
-          ready = t .ready;
-        };
+        stands =
+            stands-at (t .ready)
+            (t .machine ∙ ap (λ (rs : List Record). machineAfter p m (callsOf rs)) none)
+            (t .replies ∙ ap (λ (rs : List Record). bufferAfter p m (callsOf rs) (l .reply)) none);
         read = sym (t .read ∙ stop-here ∙ over .1);
       }
 
@@ -125,15 +125,15 @@ module _ {p : Profile} {im₀ rc₀ rp₀ s : List ℕ} {st₀ : State} {im rc r
     goes h = go (n ∙ h)
 
     pub farther : (at < next) × (next ≤ length s)
-    farther = subst (λ (k : ℕ). (at < k) × (k ≤ length s)) (sym n) (onward-in s at found lie goes)
+    farther = rw n (onward-in s at found (lie s at e) goes)
 
     -- a record, and what follows it
-    pub playing-on : (st′ : State) (im′ rc′ rp′ : List ℕ) → Stands p (machineAfter p m (callsAt s found)) (bufferAfter p m (callsAt s found) rp) st′ im′ rc′ rp′
-        → length im′ ≡ length im → length rc′ ≡ length rc → length rp′ ≡ length rp
-        → Playing p im₀ rc₀ rp₀ s st₀ im′ rc′ rp′ st′ next
-    playing-on st′ im′ rc′ rp′ left a b c =
-        let after : Machine = machineAfter p m (callsAt s found) in
-        let now : machineOf im′ st′ rc′ ≡ after = machine-eq (machineOf im′ st′ rc′) after (left .image) (left .held) (left .state) in
+    pub playing-on : {st′ : State} {after : Lent} → Stands p (machineAfter p m (callsAt s found)) (bufferAfter p m (callsAt s found) (l .reply)) st′ after
+        → length (after .image) ≡ length (l .image) → length (after .receive) ≡ length (l .receive) → length (after .reply) ≡ length (l .reply)
+        → Playing p l₀ s st₀ after st′ next
+    playing-on {st′} {after} left a b c =
+        let now : machineAfter p m (callsAt s found) ≡ machineOf st′ after =
+        sym (machine-eq (machineOf st′ after) (machineAfter p m (callsAt s found)) (left .image) (left .held) (left .state)) in
         record {
           within = farther .1;
           ready = left .ready;
@@ -144,14 +144,11 @@ module _ {p : Profile} {im₀ rc₀ rp₀ s : List ℕ} {st₀ : State} {im rc r
               t .machine
               ∙ ap (λ (rs : List Record). machineAfter p m (callsOf rs)) records-here
               ∙ machine-in s at p m found goes
-              ∙ ap (λ (k : ℕ). machineAfter p after (callsOf (recordsFrom s k))) (sym n)
-              ∙ ap (λ (x : Machine). machineAfter p x (callsOf (recordsFrom s next))) (sym now);
+              ∙ rw (now, n) refl;
           replies =
               t .replies
-              ∙ ap (λ (rs : List Record). bufferAfter p m (callsOf rs) rp) records-here
-              ∙ buffer-in s at p m found rp goes
-              ∙ ap (λ (k : ℕ). bufferAfter p after (callsOf (recordsFrom s k)) (bufferAfter p m (callsAt s found) rp)) (sym n)
-              ∙ ap (λ (x : Machine). bufferAfter p x (callsOf (recordsFrom s next)) (bufferAfter p m (callsAt s found) rp)) (sym now)
-              ∙ ap (λ (l : List ℕ). bufferAfter p (machineOf im′ st′ rc′) (callsOf (recordsFrom s next)) l) (sym (left .reply));
-          read = t .read ∙ stop-here ∙ stop-in s at found goes ∙ ap (λ (k : ℕ). stopFrom s k) (sym n);
+              ∙ ap (λ (rs : List Record). bufferAfter p m (callsOf rs) (l .reply)) records-here
+              ∙ buffer-in s at p m found (l .reply) goes
+              ∙ rw (now, n, left .reply) refl;
+          read = t .read ∙ stop-here ∙ stop-in s at found goes ∙ ap (stopFrom s) (sym n);
         }

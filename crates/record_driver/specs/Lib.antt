@@ -1,2 +1,2 @@
-pub mod Post
 pub mod Stands
+pub mod Post

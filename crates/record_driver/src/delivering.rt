@@ -1,9 +1,11 @@
 // One record of a script, given to a device: a delivery, a reset, or nothing.
 ghost use lib.ListN.{length};
+ghost use Rattle.device_calls.specs.Calls.{buffers};
 ghost use Rattle.device_steps.specs.Step.{machineOf};
+ghost use Rattle.recording.specs.Recording.{Inside};
 ghost use Rattle.device_calls.specs.Ready.{Ready};
 ghost use Rattle.record_history.specs.History.{hearing, machineAfter, repliesOver, bufferAfter};
-ghost use Rattle.record_driver.specs.Stands.{Stands, Inside, callsAt};
+ghost use Rattle.record_driver.specs.Stands.{Stands, callsAt};
 use profile::Profile;
 use recording::Found;
 use state::State;
@@ -17,10 +19,10 @@ fn deliver(
     reply: &mut [u8],
     input: &[u8],
 ) -> State
-    requires { ⌜ Ready profile (length (now image)) state (now receive) (length (now reply)) ⌝ }
-    ensures { λ r. ⌜ Stands profile (hearing profile (machineOf (now (image .entry)) state (now (receive .entry))) (now (input .entry)))
-        (repliesOver profile (machineOf (now (image .entry)) state (now (receive .entry))) (now (input .entry)) (now (reply .entry)))
-        r (now (image .exit)) (now (receive .exit)) (now (reply .exit)) ⌝ }
+    requires { ⌜ Ready profile state (buffers (now image) (now receive) (now reply)) ⌝ }
+    ensures { λ r. ⌜ Stands profile (hearing profile (machineOf state (buffers (now (image .entry)) (now (receive .entry)) (now (reply .entry)))) (now (input .entry)))
+        (repliesOver profile (machineOf state (buffers (now (image .entry)) (now (receive .entry)) (now (reply .entry)))) (now (input .entry)) (now (reply .entry)))
+        r (buffers (now (image .exit)) (now (receive .exit)) (now (reply .exit))) ⌝ }
 {
     let n = input.len();
     let mut st = state;
@@ -44,10 +46,10 @@ pub fn call(
     script: &[u8],
     found: Found,
 ) -> State
-    requires { ⌜ Ready profile (length (now image)) state (now receive) (length (now reply)) × Inside (length (now script)) found ⌝ }
-    ensures { λ r. ⌜ Stands profile (machineAfter profile (machineOf (now (image .entry)) state (now (receive .entry))) (callsAt (now (script .entry)) found))
-        (bufferAfter profile (machineOf (now (image .entry)) state (now (receive .entry))) (callsAt (now (script .entry)) found) (now (reply .entry)))
-        r (now (image .exit)) (now (receive .exit)) (now (reply .exit)) ⌝ }
+    requires { ⌜ Ready profile state (buffers (now image) (now receive) (now reply)) × Inside (length (now script)) found ⌝ }
+    ensures { λ r. ⌜ Stands profile (machineAfter profile (machineOf state (buffers (now (image .entry)) (now (receive .entry)) (now (reply .entry)))) (callsAt (now (script .entry)) found))
+        (bufferAfter profile (machineOf state (buffers (now (image .entry)) (now (receive .entry)) (now (reply .entry)))) (callsAt (now (script .entry)) found) (now (reply .entry)))
+        r (buffers (now (image .exit)) (now (receive .exit)) (now (reply .exit))) ⌝ }
 {
     match found {
         Found::Host(part) => {

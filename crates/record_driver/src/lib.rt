@@ -2,14 +2,11 @@
 mod delivering;
 
 ghost use mathlib.Core.Path.{_≡_};
-ghost use lib.ListN.{length};
-ghost use Rattle.verdict.specs.Check.{firstFault};
 ghost use Rattle.recording.specs.Recording.{stopped};
-ghost use Rattle.state.specs.State.{freshState};
-ghost use Rattle.device_calls.specs.Calls.{feedRows, refusalOf};
+ghost use Rattle.device_calls.specs.Calls.{buffers};
 ghost use Rattle.device_steps.specs.Step.{machineOf};
 ghost use Rattle.device_calls.specs.Ready.{Ready};
-ghost use Rattle.record_driver.specs.Post.{Played, DrivenBy};
+ghost use Rattle.record_driver.specs.Post.{DroveOn, Drives};
 use delivering::call;
 use device::Refusal;
 use profile::Profile;
@@ -45,9 +42,9 @@ fn run(
     reply: &mut [u8],
     script: &[u8],
 ) -> Driven
-    requires { ⌜ Ready profile (length (now image)) state (now receive) (length (now reply)) ⌝ }
-    ensures { λ r. ⌜ Played profile (machineOf (now (image .entry)) state (now (receive .entry))) (now (script .entry)) r
-        (now (image .exit)) (now (receive .exit)) (now (reply .entry)) (now (reply .exit)) ⌝ }
+    requires { ⌜ Ready profile state (buffers (now image) (now receive) (now reply)) ⌝ }
+    ensures { λ r. ⌜ DroveOn profile (machineOf state (buffers (now (image .entry)) (now (receive .entry)) (now (reply .entry)))) (now (script .entry))
+        (buffers (now (image .entry)) (now (receive .entry)) (now (reply .entry))) (buffers (now (image .exit)) (now (receive .exit)) (now (reply .exit))) r ⌝ }
 {
     let mut st = state;
     let mut at = 0;
@@ -74,13 +71,13 @@ pub fn drive(
     reply: &mut [u8],
     script: &[u8],
 ) -> Driven
-    ensures { λ r. ⌜ DrivenBy (refusalOf (firstFault (feedRows profile (length (now (image .entry))) (freshState profile) (now (receive .entry)) (length (now (reply .entry))))))
-        profile (now (script .entry)) r (now (image .entry)) (now (image .exit)) (now (receive .entry)) (now (receive .exit)) (now (reply .entry)) (now (reply .exit)) ⌝ }
+    ensures { λ r. ⌜ Drives profile (now (script .entry)) (buffers (now (image .entry)) (now (receive .entry)) (now (reply .entry)))
+        (buffers (now (image .exit)) (now (receive .exit)) (now (reply .exit))) r ⌝ }
 {
     let begun = device::start(profile, image);
     let st = begun.state;
     let refusal = begun.refusal;
-    if device::number(refusal) != 0 {
+    if !device::is_accepted(refusal) {
         return Driven {
             refusal,
             state: st,
@@ -90,7 +87,7 @@ pub fn drive(
     // a delivery of no bytes tells whether the buffers will do
     let first = device::feed(profile, image, st, receive, reply, &script[0..0]);
     let row = first.refusal;
-    if device::number(row) != 0 {
+    if !device::is_accepted(row) {
         return Driven {
             refusal: row,
             state: st,

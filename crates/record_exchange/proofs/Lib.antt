@@ -1,3 +1,2 @@
-pub mod Beyond
-pub mod Laws
-pub mod Tapes
+pub mod Answered
+pub mod Landings

@@ -1,4 +1,2 @@
 pub mod Line
-pub mod Replay
-pub mod Taped
-pub mod Blind
+pub mod Exchange

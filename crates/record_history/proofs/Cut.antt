@@ -5,7 +5,7 @@ use Prim.Native.Nat.{ℕ, suc, _+_}
 use native.Mathlib.Numerals.{add-one}
 use lib.ListN.{length, take, drop, take-append-drop}
 use Rattle.profile.specs.declared.Profile.{Profile}
-use Rattle.packet_reply.specs.Reply.{front}
+use Rattle.packet.specs.Frame.{front}
 use Rattle.record_exchange.specs.Line.{Entry}
 use Rattle.device_steps.specs.Step.{Machine, stepOf}
 use Rattle.device_steps.specs.Feed.{Delivery, feedOf}

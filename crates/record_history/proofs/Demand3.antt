@@ -9,10 +9,11 @@ use Rattle.profile.specs.declared.Profile.{Profile}
 use Rattle.profile.specs.Areas.{areasOf, totalOf}
 use Rattle.profile_rules.specs.Rules.{Accepted}
 use Rattle.record_exchange.specs.Line.{Entry}
-use Rattle.record_exchange.specs.Replay.{replay}
+use Rattle.record_replay.specs.Replay.{replay}
 use Rattle.device_steps.specs.Step.{Machine, stepOf}
 use Rattle.device_steps.specs.Fits.{FitMachine}
 use Rattle.device_steps.proofs.Kept.{fresh-fits, still-fits, kept-length, state-fits, held-short}
+use Rattle.device_calls.specs.Calls.{buffers}
 use Rattle.device_calls.proofs.Rows.{start-accepts, ready-rows}
 use Rattle.record_history.specs.History.{Call, deliver, again, freshOf, hearing, machineAfter, recordOf}
 use Rattle.record_history.specs.Faithful.{NextAccepted, Faithful}
@@ -46,10 +47,10 @@ pub next-accepted : (p : Profile) → Accepted p → (m : Machine) → length (m
 next-accepted p accepted m e f =
     record {
       resets = start-accepts p (length (m .image)) accepted e;
-      feeds = λ receive room held wide long.
+      feeds = λ receive reply held wide long.
           let few : length (m .held) < 1030 = held-short p m f in
           let count : m .state .held ≡ length (m .held) = f .count in
-          ready-rows p (length (m .image)) (m .state) receive room
+          ready-rows p (m .state) (buffers (m .image) receive reply)
           (record { profile = accepted; image = e; receive = wide; reply = long; fit = state-fits p m receive f held (omega arith) });
     }
 

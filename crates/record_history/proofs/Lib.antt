@@ -1,4 +1,4 @@
-pub mod Answered
+pub mod SameAct
 pub mod Cut
 pub mod Demand3
 pub mod Recorded

@@ -12,6 +12,7 @@ use Rattle.packet.proofs.Laws.{impossible}
 use Rattle.state.specs.declared.Pulse.{Pulse}
 use Rattle.state.specs.declared.Stage.{Stage}
 use Rattle.state.specs.declared.Stage.the-variants.{Setting}
+use Rattle.state.specs.Awaits.{awaitsOf}
 use Rattle.record_exchange.specs.Line.{exchange}
 use Rattle.device_steps.specs.Step.{Machine, stepOf}
 use Rattle.device_steps.specs.Feed.{Delivery, feedOf}
@@ -21,7 +22,7 @@ use Rattle.device_steps.proofs.Replies.{IsPacket, packet-least, Asked, packet-s
 use Rattle.record_history.specs.History.{entriesAt, heardRecord}
 
 -- an entry that a byte adds: all that is held and the byte, with the reply that the byte brings, which is a packet
-pub record Told (p : Profile) (m : Machine) (b : ℕ) (q reply : List ℕ) : Type 0 where
+pub record Noted (p : Profile) (m : Machine) (b : ℕ) (q reply : List ℕ) : Type 0 where
   pub request : q ≡ heardWith m b
   pub answer : reply ≡ stepOf p m b .reply
   pub packet : IsPacket reply
@@ -51,14 +52,14 @@ module _ (p : Profile) (m : Machine) (b : ℕ) where
   unfolding entriesAt completes refuses progressIn
   waking-unrecorded u e =
       let q : List ℕ = heardWith m b in
-      ap (λ (s : Stage). cond (isComplete (progressIn s q) || isUnfit (progressIn s q)) (exchange q (stepOf p m b .reply) ∷ []) []) e
+      ap (λ (s : Stage). cond (isComplete (progressIn (awaitsOf s) q) || isUnfit (progressIn (awaitsOf s) q)) (exchange q (stepOf p m b .reply) ∷ []) []) e
 
-  pub entry-answered : (q reply : List ℕ) → entriesAt p m b ≡ exchange q reply ∷ [] → Told p m b q reply
+  pub entry-answered : (q reply : List ℕ) → entriesAt p m b ≡ exchange q reply ∷ [] → Noted p m b q reply
   unfolding entriesAt
   entry-answered q reply e = by (completes m b || refuses m b) refl e
     where
       by : (t : Bool) → (completes m b || refuses m b) ≡ t
-          → cond t (exchange (heardWith m b) (stepOf p m b .reply) ∷ []) [] ≡ exchange q reply ∷ [] → Told p m b q reply
+          → cond t (exchange (heardWith m b) (stepOf p m b .reply) ∷ []) [] ≡ exchange q reply ∷ [] → Noted p m b q reply
       by true h k =
           let r : reply ≡ stepOf p m b .reply = cc in
           let packet : IsPacket reply = subst IsPacket (sym r) (recorded-packet h) in

@@ -1,58 +1,65 @@
 -- Demand 3: after any history of deliveries and resets the image is the starting image with the line's record replayed. Assumes nothing.
 use mathlib.Core.Bool.{_||_, cond}
 use mathlib.Core.List.{List, [], _∷_, _++_}
-use mathlib.Core.Option.{Option, none}
-use mathlib.Core.Path.{_≡_, refl, sym, ap, subst, _∙_}
+use mathlib.Core.Path.{_≡_, refl, sym, ap, _∙_}
 use Prim.Native.Nat.{ℕ}
 use lib.Dec.{eqb}
 use Rattle.verdict.specs.declared.Reason.the-variants.{LengthRefused}
-use Rattle.profile.specs.declared.Area.{Area}
+use Rattle.id_code.specs.Identity.{idOf, isNone}
 use Rattle.profile.specs.declared.Profile.{Profile}
 use Rattle.profile.specs.Areas.{areasOf}
 use Rattle.packet.specs.declared.Progress.{Progress}
 use Rattle.packet.specs.declared.Progress.the-variants.{Astray, Partial, Unfit, Complete, Excess}
-use Rattle.packet.specs.Packet.{isComplete}
-use Rattle.id_code.specs.Identity.{idOf, isNone}
+use Rattle.packet.specs.Packet.{progressOf, isComplete}
+use Rattle.flash.specs.declared.Act.{Act}
+use Rattle.flash.specs.declared.Act.the-variants.{Nothing}
+use Rattle.flash.specs.Acts.{performed}
+use Rattle.state.specs.declared.Awaited.{Awaited}
+use Rattle.state.specs.declared.Awaited.the-variants.{WakeUp, Packet}
 use Rattle.state.specs.declared.Pulse.{Pulse}
 use Rattle.state.specs.declared.Pulse.the-variants.{Zero, One, Acknowledged}
 use Rattle.state.specs.declared.Stage.{Stage}
 use Rattle.state.specs.declared.Stage.the-variants.{Setting, Authentication, Command, Writing, Reading}
 use Rattle.state.specs.declared.State.{State}
+use Rattle.state.specs.Awaits.{awaitsOf}
 use Rattle.state.specs.State.{freshState}
 use Rattle.answer.specs.Answer.{Answer}
-use Rattle.answer_command.specs.Grants.{answerCommand}
-use Rattle.answer_transfer.specs.Transfers.{answerWrite, answerNext}
-use Rattle.record_exchange.specs.Line.{Entry, exchange}
-use Rattle.record_exchange.specs.Replay.{Tape, entryReplay, replayFrom, replay}
 use Rattle.answer_waking.specs.Wake.{awake, wakeOf}
-use Rattle.device_steps.specs.Step.{Machine, earlyCode, endOf, heard, stepIn, stepOf}
+use Rattle.device_steps.specs.Step.{Machine, earlyOf, answerOf, heard, stepIn, stepOf}
 use Rattle.device_steps.specs.Records.{isUnfit, progressIn, heardWith, completes, refuses}
 use Rattle.device_steps.proofs.Settles.{either}
+use Rattle.record_exchange.specs.declared.Landing.{Landing}
+use Rattle.record_exchange.specs.declared.Landing.the-variants.{Nowhere}
+use Rattle.record_exchange.specs.declared.Told.{Told}
+use Rattle.record_exchange.specs.Exchange.{exchangeRead}
+use Rattle.record_exchange.specs.Line.{Entry, exchange}
+use Rattle.record_replay.specs.Replay.{Tape, done, entryReplay, replayFrom, replay}
+use Rattle.record_replay.proofs.Laws.{replay-append}
 use Rattle.record_history.specs.History.{Call, deliver, again, freshOf, hearing, machineAfter, entriesAt, heardRecord, recordOf}
-use Rattle.record_history.proofs.Answered.{At, Answers, passed-over, command-law, write-law, next-law}
+use Rattle.record_history.proofs.SameAct.{Follows, Agrees, passed-over, same-act}
 
 -- the entries take the tape from one image to that of the next machine
-pub record Leads (p : Profile) (image : List ℕ) (l : Option ℕ) (es : List Entry) (m : Machine) : Type 0 where
-  pub landing : Option ℕ
+pub record Leads (p : Profile) (image : List ℕ) (l : Landing) (es : List Entry) (m : Machine) : Type 0 where
+  pub landing : Landing
   pub replays : replayFrom (areasOf p) (record { image = image; landing = l }) es ≡ record { image = m .image; landing = landing }
-  pub at : At (m .state .stage) landing
+  pub at : Follows (m .state .stage) landing
 
 -- no entry, and the image stays
-still : (p : Profile) (image : List ℕ) (l : Option ℕ) (m : Machine) → image ≡ m .image → At (m .state .stage) l → Leads p image l [] m
+still : (p : Profile) (image : List ℕ) (l : Landing) (m : Machine) → image ≡ m .image → Follows (m .state .stage) l → Leads p image l [] m
 unfolding replayFrom
 still p image l m e h = record { landing = l; replays = ap (λ (i : List ℕ). record { image = i; landing = l }) e; at = h }
 
-wake-law : (p : Profile) (image : List ℕ) (st : State) (l : Option ℕ) (u : Pulse) (b : ℕ)
-    → (image ≡ wakeOf p image st u b .image) × At (wakeOf p image st u b .state .stage) l
+wake-law : (p : Profile) (image : List ℕ) (st : State) (l : Landing) (u : Pulse) (b : ℕ)
+    → (wakeOf p image st u b .act ≡ Nothing) × Follows (wakeOf p image st u b .state .stage) l
 unfolding wakeOf awake
-wake-law p image st l Zero b = either (λ (a : Answer). (image ≡ a .image) × At (a .state .stage) l) _ _ (eqb b 0x00) (refl, tt) (refl, tt)
-wake-law p image st l One b = either (λ (a : Answer). (image ≡ a .image) × At (a .state .stage) l) _ _ (eqb b 0x00) (refl, tt) (refl, tt)
+wake-law p image st l Zero b = either (λ (a : Answer). (a .act ≡ Nothing) × Follows (a .state .stage) l) _ _ (eqb b 0x00) (refl, tt) (refl, tt)
+wake-law p image st l One b = either (λ (a : Answer). (a .act ≡ Nothing) × Follows (a .state .stage) l) _ _ (eqb b 0x00) (refl, tt) (refl, tt)
 wake-law p image st l Acknowledged b =
-    either (λ (a : Answer). (image ≡ a .image) × At (a .state .stage) l) _ _ (eqb b 0x55)
-    (refl, either (λ (s : Stage). At s l) Command Authentication (isNone (idOf (areasOf p) image)) tt tt)
-    (either (λ (a : Answer). (image ≡ a .image) × At (a .state .stage) l) _ _ (eqb b 0x00) (refl, tt) (refl, tt))
+    either (λ (a : Answer). (a .act ≡ Nothing) × Follows (a .state .stage) l) _ _ (eqb b 0x55)
+    (refl, either (λ (s : Stage). Follows s l) Command Authentication (isNone (idOf (areasOf p) image)) tt tt)
+    (either (λ (a : Answer). (a .act ≡ Nothing) × Follows (a .state .stage) l) _ _ (eqb b 0x00) (refl, tt) (refl, tt))
 
-end-at : (s : Stage) (l : Option ℕ) → At (endOf s) l
+end-at : (s : Stage) (l : Landing) → Follows (earlyOf s .1) l
 end-at (Setting u) l = tt
 end-at Authentication l = tt
 end-at Command l = tt
@@ -64,48 +71,41 @@ abbrev entriesFor : Progress → List ℕ → List ℕ → List Entry
 entriesFor x q reply = cond (isComplete x || isUnfit x) (exchange q reply ∷ []) []
 
 -- one byte
-module _ (p : Profile) (m : Machine) (l : Option ℕ) (h : At (m .state .stage) l) where
-  heard-law : (answer : List ℕ → Answer) (q : List ℕ) (x : Progress) → (x ≡ Complete → Answers p (m .image) l q (answer q))
-      → Leads p (m .image) l (entriesFor x q (heard answer m q x .reply)) (heard answer m q x .machine)
-  unfolding heard replayFrom entryReplay
-  heard-law answer q Astray law = still p (m .image) l _ refl h
-  heard-law answer q Partial law = still p (m .image) l _ refl h
-  heard-law answer q Unfit law =
+module _ (p : Profile) (m : Machine) (l : Landing) (h : Follows (m .state .stage) l) where
+  heard-law : (q : List ℕ) (x : Progress) → (x ≡ Complete → Agrees l q (answerOf p (m .image) (m .state) (m .state .stage) q))
+      → Leads p (m .image) l (entriesFor x q (heard p m q x .reply)) (heard p m q x .machine)
+  unfolding heard replayFrom entryReplay performed
+  heard-law q Astray law = still p (m .image) l _ refl h
+  heard-law q Partial law = still p (m .image) l _ refl h
+  heard-law q Unfit law =
       record {
         landing = l;
-        replays = passed-over (areasOf p) q (earlyCode (m .state .stage)) LengthRefused (record { image = m .image; landing = l });
+        replays = ap (λ (t : Told). done (areasOf p) q t (m .image)) (passed-over q (earlyOf (m .state .stage) .0) LengthRefused l);
         at = end-at (m .state .stage) l;
       }
-  heard-law answer q Complete law = record { landing = law refl .landing; replays = law refl .replays; at = law refl .at }
-  heard-law answer q Excess law = still p (m .image) l _ refl h
+  heard-law q Complete law =
+      let told : Told = exchangeRead q (answerOf p (m .image) (m .state) (m .state .stage) q .reply) l in
+      record {
+        landing = told .landing;
+        replays = ap (λ (act : Act). done (areasOf p) q (record { act = act; landing = told .landing }) (m .image)) (law refl .act);
+        at = law refl .follows;
+      }
+  heard-law q Excess law = still p (m .image) l _ refl h
 
-  step-in-law : (b : ℕ) (s : Stage) → m .state .stage ≡ s
-      → Leads p (m .image) l (entriesFor (progressIn s (heardWith m b)) (heardWith m b) (stepIn p m s b .reply)) (stepIn p m s b .machine)
-  unfolding stepIn progressIn
-  step-in-law b (Setting u) e =
+  step-in-law : (b : ℕ) (a : Awaited) → (progressIn a (heardWith m b) ≡ Complete → Agrees l (heardWith m b) (answerOf p (m .image) (m .state) (m .state .stage) (heardWith m b)))
+      → Leads p (m .image) l (entriesFor (progressIn a (heardWith m b)) (heardWith m b) (stepIn p m a b .reply)) (stepIn p m a b .machine)
+  unfolding stepIn progressIn performed
+  step-in-law b (WakeUp u) law =
       let w = wake-law p (m .image) (m .state) l u b in
-      still p (m .image) l _ (w .0) (w .1)
-  step-in-law b Authentication e =
-      heard-law (answerCommand p (m .image) (m .state)) (heardWith m b) _ (λ c. command-law p (m .image) (m .state) l (heardWith m b) c h)
-  step-in-law b Command e =
-      heard-law (answerCommand p (m .image) (m .state)) (heardWith m b) _ (λ c. command-law p (m .image) (m .state) l (heardWith m b) c h)
-  step-in-law b (Writing r) e =
-      heard-law (answerWrite p (m .image) (m .state) r) (heardWith m b) _
-      (λ c. write-law p (m .image) (m .state) l (heardWith m b) c r (subst (λ (s : Stage). At s l) e h))
-  step-in-law b (Reading r) e =
-      heard-law (answerNext p (m .image) (m .state) r) (heardWith m b) _ (λ c. next-law p (m .image) (m .state) l (heardWith m b) c r)
+      still p (m .image) l _ (sym (ap (λ (act : Act). performed (areasOf p) act [] (m .image)) (w .0))) (w .1)
+  step-in-law b (Packet kind) law = heard-law (heardWith m b) (progressOf kind (heardWith m b)) law
 
   pub step-law : (b : ℕ) → Leads p (m .image) l (entriesAt p m b) (stepOf p m b .machine)
   unfolding stepOf entriesAt completes refuses
-  step-law b = step-in-law b (m .state .stage) refl
+  step-law b = step-in-law b (awaitsOf (m .state .stage)) (λ c. same-act p (m .image) (m .state) l (heardWith m b) c h)
 
 -- one record behind the other
-replay-append : (areas : List Area) (t : Tape) (es fs : List Entry) → replayFrom areas t (es ++ fs) ≡ replayFrom areas (replayFrom areas t es) fs
-unfolding replayFrom
-replay-append areas t [] fs = refl
-replay-append areas t (e ∷ es) fs = replay-append areas (entryReplay areas e t) es fs
-
-then : (p : Profile) (image : List ℕ) (l : Option ℕ) (es fs : List Entry) (m m′ : Machine) (k : Leads p image l es m)
+then : (p : Profile) (image : List ℕ) (l : Landing) (es fs : List Entry) (m m′ : Machine) (k : Leads p image l es m)
     → Leads p (m .image) (k .landing) fs m′ → Leads p image l (es ++ fs) m′
 then p image l es fs m m′ k n =
     record {
@@ -118,7 +118,7 @@ then p image l es fs m m′ k n =
     }
 
 -- a delivery
-pub hearing-law : (p : Profile) (m : Machine) (l : Option ℕ) (bs : List ℕ) → At (m .state .stage) l → Leads p (m .image) l (heardRecord p m bs) (hearing p m bs)
+pub hearing-law : (p : Profile) (m : Machine) (l : Landing) (bs : List ℕ) → Follows (m .state .stage) l → Leads p (m .image) l (heardRecord p m bs) (hearing p m bs)
 unfolding hearing heardRecord
 hearing-law p m l [] h = still p (m .image) l m refl h
 hearing-law p m l (b ∷ bs) h =
@@ -126,12 +126,12 @@ hearing-law p m l (b ∷ bs) h =
     let s : Machine = stepOf p m b .machine in
     then p (m .image) l (entriesAt p m b) (heardRecord p s bs) s (hearing p s bs) k (hearing-law p s (k .landing) bs (k .at))
 
-fresh-at : (p : Profile) (l : Option ℕ) → At (freshState p .stage) l
+fresh-at : (p : Profile) (l : Landing) → Follows (freshState p .stage) l
 unfolding freshState
 fresh-at p l = tt
 
 -- a history
-pub history-law : (p : Profile) (m : Machine) (l : Option ℕ) (calls : List Call) → At (m .state .stage) l
+pub history-law : (p : Profile) (m : Machine) (l : Landing) (calls : List Call) → Follows (m .state .stage) l
     → Leads p (m .image) l (recordOf p m calls) (machineAfter p m calls)
 unfolding recordOf machineAfter replayFrom entryReplay
 history-law p m l [] h = still p (m .image) l m refl h
@@ -147,4 +147,4 @@ history-law p m l (again ∷ more) h =
 pub replayed : (p : Profile) (image : List ℕ) (calls : List Call)
     → machineAfter p (freshOf p image) calls .image ≡ replay (areasOf p) image (recordOf p (freshOf p image) calls)
 unfolding replay
-replayed p image calls = sym (ap (λ (t : Tape). t .image) (history-law p (freshOf p image) none calls (fresh-at p none) .replays))
+replayed p image calls = sym (ap (λ (t : Tape). t .image) (history-law p (freshOf p image) Nowhere calls (fresh-at p Nowhere) .replays))

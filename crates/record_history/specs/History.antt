@@ -1,10 +1,10 @@
 -- A history of calls: deliveries of any bytes and resets, in any order. What becomes of the machine, and the line's record.
-use mathlib.Core.Bool.{Bool, true, false, _||_, cond}
+use mathlib.Core.Bool.{_||_, cond}
 use mathlib.Core.List.{List, [], _∷_, _++_}
 use Prim.Native.Nat.{ℕ}
 use Rattle.profile.specs.declared.Profile.{Profile}
 use Rattle.recording.specs.Recording.{Record, host, device, reset}
-use Rattle.packet_reply.specs.Reply.{front}
+use Rattle.packet.specs.Frame.{front}
 use Rattle.state.specs.State.{freshState}
 use Rattle.record_exchange.specs.Line.{Entry, exchange, restart}
 use Rattle.device_steps.specs.Step.{Machine, stepOf}

@@ -1,1 +1,3 @@
+pub mod Replay
+pub mod Blind
 pub mod Post

@@ -11,13 +11,12 @@ use Rattle.recording.specs.declared.Found.{Found}
 use Rattle.recording.specs.declared.Found.the-variants.{Host, Device, Reset, End, Unreadable}
 use Rattle.recording.specs.Recording.{bytesIn, recordsFrom, recordsOf, stopFrom, readable}
 use Rattle.record_exchange.specs.Line.{exchangesFrom, exchangesOf}
-use Rattle.record_exchange.specs.Replay.{Tape, replayFrom, replay}
+use Rattle.record_replay.specs.Replay.{Tape, replayFrom, replay}
 use Rattle.record_replay.specs.declared.Head.{Head}
 use Rattle.record_replay.specs.declared.Waiting.{Waiting}
 use Rattle.record_replay.specs.declared.Waiting.the-variants.{Nothing, For}
 use Rattle.record_exchange.specs.declared.Landing.{Landing}
 use Rattle.record_exchange.specs.declared.Landing.the-variants.{Nowhere, At}
-use Rattle.record_exchange.specs.Taped.{tapeOf}
 
 pub record Played (p : Profile) (recording before after : List ℕ) (r : ℕ) : Type 0 where
   pub image : after ≡ replay (areasOf p) before (exchangesOf (recordsOf recording))
@@ -36,7 +35,7 @@ waitingOf recording (For part) = some (bytesIn part recording)
 -- what playing on from a head gives
 abbrev pub playedFrom : Profile → List ℕ → List ℕ → Head → Tape
 playedFrom p recording image head =
-    replayFrom (areasOf p) (tapeOf image (head .landing)) (exchangesFrom (waitingOf recording (head .waiting)) (recordsFrom recording (head .at)))
+    replayFrom (areasOf p) (record { image = image; landing = head .landing }) (exchangesFrom (waitingOf recording (head .waiting)) (recordsFrom recording (head .at)))
 
 -- a part that waits lies before the head; a landing place is at most the highest address and what was read since
 abbrev pub WaitsBefore : Waiting → Landing → ℕ → Type 0

@@ -4,10 +4,14 @@ ghost use mathlib.Core.Path.{_≡_};
 ghost use lib.ListN.{length};
 ghost use Rattle.recording.specs.declared.Found.the-variants.{Device};
 ghost use Rattle.recording.specs.Recording.{foundAt};
+ghost use Rattle.profile.specs.Areas.{areasOf};
+ghost use Rattle.record_exchange.specs.Exchange.{CanMove};
+ghost use Rattle.record_exchange.specs.Line.{exchange};
+ghost use Rattle.record_replay.specs.Replay.{entryReplay};
 ghost use Rattle.record_replay.specs.Post.{HeadIn, Advanced, Played, isRecord};
 use profile::Profile;
 use record_exchange::Landing;
-use record_exchange::replay_exchange;
+use record_exchange::read_exchange;
 use recording::Found;
 use recording::Part;
 
@@ -35,6 +39,23 @@ fn is_record(found: Found) -> bool
         Found::End => false,
         Found::Unreadable => false,
     }
+}
+
+// An exchange: what it tells of is done on the image; where the next write data lands.
+fn replay_exchange(
+    image: &mut [u8],
+    profile: Profile,
+    landing: Landing,
+    request: &[u8],
+    reply: &[u8],
+) -> Landing
+    requires { ⌜ CanMove landing (length (now request)) ⌝ }
+    ensures { λ r. ⌜ record { image = now (image .exit); landing = r } ≡ entryReplay (areasOf profile) (exchange (now (request .entry)) (now (reply .entry))) (record { image = now (image .entry); landing = landing }) ⌝ }
+{
+    let told = read_exchange(request, reply, landing);
+    let act = told.act;
+    flash::perform(image, profile, act, packet_fields::info(request));
+    told.landing
 }
 
 // What the device sent answers what waits.

@@ -11,14 +11,14 @@ use borrow.Author.Tests.{leb-true, eqb-true}
 use Rattle.recording.specs.declared.Part.{Part}
 use Rattle.recording.specs.declared.Found.{Found}
 use Rattle.recording.specs.declared.Found.the-variants.{Host, Device, Reset, End, Unreadable}
-use Rattle.recording.specs.Recording.{partAt, directed, headed, foundAt, Record, host, device, reset, bytesIn, continued, recordsWithin, recordsFrom, stopped, stopWithin, stopFrom, Placed}
+use Rattle.recording.specs.Recording.{partAt, directed, headed, foundAt, Record, host, device, reset, bytesIn, continued, recordsWithin, recordsFrom, stopped, stopWithin, stopFrom, LiesBehind}
 use Rattle.recording.proofs.Laws.{both-right, found-end}
 
 -- what is found lies behind its place, and the end is at the end
 abbrev pub Lies : ℕ → ℕ → Found → Type 0
-Lies at n (Host part) = Placed at n part
-Lies at n (Device part) = Placed at n part
-Lies at n (Reset part) = Placed at n part
+Lies at n (Host part) = LiesBehind at n part
+Lies at n (Device part) = LiesBehind at n part
+Lies at n (Reset part) = LiesBehind at n part
 Lies at n End = at ≡ n
 Lies at n Unreadable = Unit {0}
 
@@ -26,7 +26,7 @@ picked : (P : Found → Type 0) (t : Bool) (a b : Found) → (t ≡ true → P a
 picked P true a b f g = f refl
 picked P false a b f g = g
 
-directed-lies : (at n direction : ℕ) (part : Part) → Placed at n part → Lies at n (directed direction part)
+directed-lies : (at n direction : ℕ) (part : Part) → LiesBehind at n part → Lies at n (directed direction part)
 unfolding directed
 directed-lies at n direction part p =
     picked (Lies at n) (eqb direction 0x48) _ _ (λ _. p)
@@ -42,13 +42,13 @@ lies s at =
     (record { head = refl; order = omega arith; fits = leb-true _ _ (both-right (headed s at) _ e) })) tt)
 
 module _ (s : List ℕ) (at : ℕ) (part : Part) where
-  pub found-host : foundAt s at ≡ Host part → Placed at (length s) part
+  pub found-host : foundAt s at ≡ Host part → LiesBehind at (length s) part
   found-host e = subst (Lies at (length s)) e (lies s at)
 
-  pub found-device : foundAt s at ≡ Device part → Placed at (length s) part
+  pub found-device : foundAt s at ≡ Device part → LiesBehind at (length s) part
   found-device e = subst (Lies at (length s)) e (lies s at)
 
-  pub found-reset : foundAt s at ≡ Reset part → Placed at (length s) part
+  pub found-reset : foundAt s at ≡ Reset part → LiesBehind at (length s) part
   found-reset e = subst (Lies at (length s)) e (lies s at)
 
 -- a reading that goes on behind each record: any fuel that lasts to the end gives the same
@@ -187,9 +187,9 @@ over-past at n Unreadable l h = inr refl
 
 over-next : (s : List ℕ) (f : ℕ → ℕ) (at : ℕ) (found : Found) → foundAt s at ≡ found → ((to : ℕ) → at < to → Over (foundAt s (f to)))
     → Over (foundAt s (stopped f at found))
-over-next s f at (Host part) e k = let p : Placed at (length s) part = found-host s at part e in k (part .to) (omega arith)
-over-next s f at (Device part) e k = let p : Placed at (length s) part = found-device s at part e in k (part .to) (omega arith)
-over-next s f at (Reset part) e k = let p : Placed at (length s) part = found-reset s at part e in k (part .to) (omega arith)
+over-next s f at (Host part) e k = let p : LiesBehind at (length s) part = found-host s at part e in k (part .to) (omega arith)
+over-next s f at (Device part) e k = let p : LiesBehind at (length s) part = found-device s at part e in k (part .to) (omega arith)
+over-next s f at (Reset part) e k = let p : LiesBehind at (length s) part = found-reset s at part e in k (part .to) (omega arith)
 over-next s f at End e k = inl e
 over-next s f at Unreadable e k = inr e
 

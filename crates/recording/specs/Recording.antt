@@ -1,6 +1,6 @@
 -- A recording of a line, as bytes: records one behind the other, each a mark 52h 4Ch, a direction (48h host, 44h device, 52h reset),
 -- a length in two bytes, and that many bytes.
-use mathlib.Core.Bool.{Bool, true, false, _&&_, cond}
+use mathlib.Core.Bool.{Bool, _&&_, cond}
 use mathlib.Core.List.{List, [], _∷_, _++_}
 use mathlib.Core.Path.{_≡_}
 use Prim.Native.Nat.{ℕ, zero, suc, _+_, _-_, _≤_, _<_}
@@ -93,10 +93,18 @@ abbrev pub readable : List ℕ → ℕ
 readable recording = stopFrom recording 0
 
 -- where the part of a record that stands at a place of n bytes lies: behind its head, and not past the end
-pub record Placed (at n : ℕ) (part : Part) : Type 0 where
+pub record LiesBehind (at n : ℕ) (part : Part) : Type 0 where
   pub head : part .from ≡ at + headLength
   pub order : part .from ≤ part .to
   pub fits : part .to ≤ n
+
+-- a record that was found lies inside a recording of n bytes
+abbrev pub Inside : ℕ → Found → Type 0
+Inside n (Host part) = (part .from ≤ part .to) × (part .to ≤ n)
+Inside n (Device part) = (part .from ≤ part .to) × (part .to ≤ n)
+Inside n (Reset part) = (part .from ≤ part .to) × (part .to ≤ n)
+Inside n End = Unit {0}
+Inside n Unreadable = Unit {0}
 
 -- a record's bytes, and the direction that says which it is
 abbrev pub payload : Record → List ℕ

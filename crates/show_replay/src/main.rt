@@ -3,8 +3,7 @@
 ghost use mathlib.Core.Path.{_≡_};
 ghost use Prim.Native.Nat.{_+_, _≤_, _<_};
 ghost use lib.ListN.{length};
-ghost use Rattle.recording.specs.Recording.{stopped};
-ghost use Rattle.record_driver.specs.Stands.{Inside};
+ghost use Rattle.recording.specs.Recording.{stopped, Inside};
 use recording::Found;
 use show_common::bench_profile;
 use state::State;

@@ -5,13 +5,14 @@ use Prim.Native.Nat.{ℕ, _≤_}
 use native.Mathlib.Omega.{arith}
 use lib.ListN.{length, take}
 use lib.Seq.{length-take-le}
-use Rattle.packet_reply.specs.Reply.{Placed}
-use Rattle.packet_reply.proofs.Replies.{answer-within}
+use Rattle.packet.specs.declared.Kind.the-variants.{Data}
+use Rattle.packet.specs.Frame.{Framed}
+use Rattle.packet.proofs.Framed.{answer-within}
 
-module _ (contents before after : List ℕ) (r : ℕ) (k : length after ≡ length before) (p : Placed contents before after r) where
+module _ (contents before after : List ℕ) (r : ℕ) (k : length after ≡ length before) (p : Framed Data contents before after r) where
   -- the reply lies within the buffer
   pub within : r ≤ length after
-  within = let h : r ≤ length before = answer-within contents before after r p in omega arith
+  within = let h : r ≤ length before = answer-within Data contents before after r p in omega arith
 
   -- and its part has its length
   pub part-length : length (take r after) ≡ r

@@ -1,2 +1,3 @@
+pub mod Awaiting
 pub mod FitLaws
 pub mod FitParts

@@ -1,10 +1,10 @@
 -- When a state fits the profile and the receive buffer.
-use mathlib.Core.Bool.{Bool, true, false, _&&_}
+use mathlib.Core.Bool.{Bool, true, _&&_}
 use mathlib.Core.List.{List}
 use Prim.Native.Nat.{ℕ, _+_, _-_}
 use lib.ListN.{length, take}
-use lib.Dec.{leb, eqb}
-use Rattle.verdict.specs.Check.{firstFault}
+use lib.Dec.{leb}
+use Rattle.verdict.specs.Check.{firstFault, passes}
 use Rattle.profile.specs.declared.Area.{Area}
 use Rattle.profile.specs.declared.Profile.{Profile}
 use Rattle.profile.specs.declared.Window.{Window}
@@ -12,15 +12,11 @@ use Rattle.profile.specs.Areas.{areasOf}
 use Rattle.profile_ranges.specs.declared.Purpose.{Purpose}
 use Rattle.profile_ranges.specs.declared.Purpose.the-variants.{Write, Read}
 use Rattle.profile_ranges.specs.Ranges.{rangeChecks}
-pub use Rattle.profile_ranges.specs.Ranges.{passes}
-use Rattle.packet.specs.declared.Kind.{Kind}
-use Rattle.packet.specs.declared.Kind.the-variants.{Command as CommandPacket, Data as DataPacket}
-use Rattle.packet.specs.Packet.{progressOf, isPartial}
-use Rattle.state.specs.declared.Pulse.{Pulse}
 use Rattle.state.specs.declared.Range.{Range}
 use Rattle.state.specs.declared.Stage.{Stage}
 use Rattle.state.specs.declared.Stage.the-variants.{Setting, Authentication, Command, Writing, Reading}
 use Rattle.state.specs.declared.State.{State}
+use Rattle.state.specs.Awaits.{awaitsOf, heldFits}
 use Rattle.state.specs.State.{windowOf}
 
 -- a range with at least one byte left, of addresses of 32 bits, that the purpose permits
@@ -28,14 +24,6 @@ unfoldable pub rangeFits : List Area → Window → Purpose → Range → Bool
 rangeFits areas w purpose r =
     leb 1 (r .left)
     && (leb (r .next + r .left) 0x100000000 && passes (firstFault (rangeChecks areas w purpose (r .next) (r .next + r .left - 1))))
-
--- held bytes are an incomplete packet of the kind that the stage awaits; setting holds none
-unfoldable pub heldFits : Stage → List ℕ → Bool
-heldFits (Setting u) held = eqb (length held) 0
-heldFits Authentication held = isPartial (progressOf CommandPacket held)
-heldFits Command held = isPartial (progressOf CommandPacket held)
-heldFits (Writing r) held = isPartial (progressOf DataPacket held)
-heldFits (Reading r) held = isPartial (progressOf DataPacket held)
 
 unfoldable pub stageFits : List Area → Window → Stage → Bool
 stageFits areas w (Setting u) = true
@@ -47,4 +35,4 @@ stageFits areas w (Reading r) = rangeFits areas w Read r
 unfoldable pub fitsOf : Profile → State → List ℕ → Bool
 fitsOf p st receive =
     leb (st .held) (length receive)
-    && (heldFits (st .stage) (take (st .held) receive) && stageFits (areasOf p) (windowOf p st) (st .stage))
+    && (heldFits (awaitsOf (st .stage)) (take (st .held) receive) && stageFits (areasOf p) (windowOf p st) (st .stage))

@@ -1,3 +1,4 @@
+pub mod Awaits
 pub mod State
 pub mod Fits
 pub mod Fit

@@ -1,27 +1,27 @@
 // Whether a state fits the profile and the receive buffer.
 ghost use mathlib.Core.Path.{_≡_};
 ghost use Rattle.profile.specs.Areas.{areasOf};
-ghost use Rattle.state.specs.Fits.{rangeFits, heldFits, stageFits, fitsOf};
+ghost use Rattle.state.specs.Awaits.{heldFits};
+ghost use Rattle.state.specs.Fits.{rangeFits, stageFits, fitsOf};
+use crate::Awaited;
 use crate::Range;
 use crate::Stage;
 use crate::State;
-use packet::Kind;
+use crate::awaits;
+use crate::window;
 use packet::waits;
 use profile::Place;
 use profile::Profile;
 use profile::Window;
 use profile_ranges::Purpose;
 
-// Whether held bytes may await their rest in the stage.
-fn held_fits(stage: Stage, held: &[u8]) -> bool
-    ensures { λ r. ⌜ r ≡ heldFits stage (now (held .entry)) ⌝ }
+// Whether held bytes may wait for their rest.
+fn held_fits(awaited: Awaited, held: &[u8]) -> bool
+    ensures { λ r. ⌜ r ≡ heldFits awaited (now (held .entry)) ⌝ }
 {
-    match stage {
-        Stage::Setting(_) => held.len() == 0,
-        Stage::Authentication => waits(held, Kind::Command),
-        Stage::Command => waits(held, Kind::Command),
-        Stage::Writing(_) => waits(held, Kind::Data),
-        Stage::Reading(_) => waits(held, Kind::Data),
+    match awaited {
+        Awaited::WakeUp(_) => held.len() == 0,
+        Awaited::Packet(kind) => waits(held, kind),
     }
 }
 
@@ -68,9 +68,8 @@ pub fn fits(profile: Profile, state: State, receive: &[u8]) -> bool
     if receive.len() < count {
         return false;
     }
-    if !held_fits(stage, &receive[..count]) {
+    if !held_fits(awaits(stage), &receive[..count]) {
         return false;
     }
-    let window = profile.window;
-    stage_fits(profile, window, stage)
+    stage_fits(profile, window(profile, state), stage)
 }

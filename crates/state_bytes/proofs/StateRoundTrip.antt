@@ -19,7 +19,7 @@ use Rattle.state.specs.declared.State.{State}
 use Rattle.packet_fields.specs.Fields.{fourAt, bytesFrom}
 use Rattle.state_bytes.specs.declared.StageIn.{StageIn}
 use Rattle.state_bytes.specs.declared.StageIn.the-variants.{Is, NoStage}
-use Rattle.state_bytes.specs.State.{stageNumber, pulsesOf, rangeOf, stateBytes, settingIn, stageOf, stageIn, stateWith, stateBy, stateIn}
+use Rattle.state_bytes.specs.State.{stateLength, stageNumber, pulsesOf, rangeOf, stateBytes, settingIn, stageOf, stageIn, stateWith, stateBy, stateIn}
 use Rattle.packet_fields.proofs.Spelled.{spelled}
 use Rattle.packet_fields.proofs.FieldLaws.{four-back, back-four}
 
@@ -93,6 +93,11 @@ picked false h taken left = left refl h
 
 no-stage : {stage : Stage} {P : Type 0} → NoStage ≡ Is stage → P
 no-stage e = let z : _≡_ {A = ℕ} 0 1 = cc in absurd (omega arith)
+
+-- bytes in which a stage is found are as many as a state has
+pub found-length : (bs : List ℕ) (stage : Stage) → stageIn bs ≡ Is stage → length bs ≡ stateLength
+unfolding stageIn
+found-length bs stage h = picked (eqb (length bs) stateLength) h (λ t _. eqb-true (length bs) stateLength t) (λ _ e. no-stage e)
 
 both : (a b : Bool) → (a && b) ≡ true → (a ≡ true) × (b ≡ true)
 both true b h = (refl, h)

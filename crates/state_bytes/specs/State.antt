@@ -1,9 +1,8 @@
 -- A state as 33 bytes: stage 1, low pulses 1, next address 4, bytes left 4, ID 16, ABCS 1, BRR 1, MDDR 1, held count 4.
-use mathlib.Core.Bool.{Bool, true, false, _&&_, cond}
+use mathlib.Core.Bool.{_&&_, cond}
 use mathlib.Core.List.{List, [], _∷_, _++_}
 use mathlib.Core.Option.{Option, none, some}
-use mathlib.Core.Path.{_≡_}
-use Prim.Native.Nat.{ℕ, _<_}
+use Prim.Native.Nat.{ℕ}
 use lib.ListN.{length, getD}
 use lib.Dec.{eqb}
 use Rattle.numbers.specs.Bytes.{bytesOf}

@@ -7,7 +7,7 @@ ghost use lib.ListN.{length};
 ghost use lib.Seq.{sets, paste};
 ghost use Rattle.numbers.specs.Bytes.{bytesOf};
 ghost use Rattle.packet_fields.specs.Fields.{bytesFrom};
-ghost use Rattle.state_bytes.specs.State.{stageNumber, pulseNumber, pulsesOf, rangeOf, stageBytes, stageOf, settingIn, stageIn, stateWith, stateOver};
+ghost use Rattle.state_bytes.specs.State.{stateLength, stageNumber, pulseNumber, pulsesOf, rangeOf, stageBytes, stageOf, settingIn, stageIn, stateWith, stateOver};
 use baud::LineSetting;
 use numbers::lower;
 use state::Pulse;
@@ -22,7 +22,7 @@ pub enum StageIn {
 }
 
 // How many bytes a state has.
-const STATE_LENGTH: usize = 33;
+pub const STATE_LENGTH: usize = 33;
 
 // Setting by its low pulses.
 fn setting_in(pulses: u8) -> StageIn
@@ -170,7 +170,7 @@ fn range_of(stage: Stage) -> Range
 
 // Stage, low pulses and range, in bytes 0 to 9.
 fn put_stage(bytes: &mut [u8], stage: Stage)
-    requires { ⌜ length (now bytes) ≡ 33 ⌝ }
+    requires { ⌜ length (now bytes) ≡ stateLength ⌝ }
     ensures { λ _. ⌜ now (bytes .exit) ≡ sets (now (bytes .entry)) 0 (stageBytes stage) ⌝ }
 {
     let range = range_of(stage);
@@ -182,7 +182,7 @@ fn put_stage(bytes: &mut [u8], stage: Stage)
 
 // The ID, in bytes 10 to 25, in one copy.
 fn put_id(bytes: &mut [u8], id: [u8; 16])
-    requires { ⌜ length (now bytes) ≡ 33 ⌝ }
+    requires { ⌜ length (now bytes) ≡ stateLength ⌝ }
     ensures { λ _. ⌜ now (bytes .exit) ≡ paste (now (bytes .entry)) 10 id 16 ⌝ }
 {
     bytes::copy(&id, &mut bytes[10..26]);
@@ -190,7 +190,7 @@ fn put_id(bytes: &mut [u8], id: [u8; 16])
 
 // Line and held count, in bytes 26 to 32.
 fn put_line(bytes: &mut [u8], line: LineSetting, held: usize)
-    requires { ⌜ length (now bytes) ≡ 33 ⌝ }
+    requires { ⌜ length (now bytes) ≡ stateLength ⌝ }
     ensures { λ _. ⌜ now (bytes .exit) ≡ sets (now (bytes .entry)) 26 ((line .abcs ∷ line .brr ∷ line .mddr ∷ []) ++ bytesOf 4 held) ⌝ }
 {
     bytes[26] = line.abcs;

@@ -1,5 +1,5 @@
 -- No refusal has the code that means OK. Assumes nothing.
-use Prim.Native.Nat.{ℕ, _<_}
+use Prim.Native.Nat.{_<_}
 use lib.Dec.{lit<}
 use Rattle.verdict.specs.declared.Reason.{Reason}
 use Rattle.verdict.specs.declared.Reason.the-variants.{WrongEtx, WrongSum, UnknownCommand, WrongLength, WrongStage, Reversed, StartNowhere, EndNowhere, TwoAreas, NoUnit, StartUnaligned, EndUnaligned, BelowWindow, AboveWindow, Locked, OtherId, RateZero, RateAboveLimit, RateOff, NoSuchArea, NotWriteData, NoData, TooMuchData, BrokenUnit, DirtyFlash, NotNextRequest, LengthRefused}

@@ -17,6 +17,11 @@ firstFault [] = none
 firstFault ((true gives a) ∷ later) = some a
 firstFault ((false gives a) ∷ later) = firstFault later
 
+-- no fault was found
+abbrev pub passes : {A : Type 0} → Option A → Bool
+passes none = true
+passes (some a) = false
+
 -- no fault of the list applies
 unfoldable pub NoneApplies : {A : Type 0} → List (Check A) → Type 0
 NoneApplies [] = Unit {0}

@@ -1,40 +1,19 @@
--- `answer_command::grant_baud` meets its contract. The line setting is that of the packet's rate. Assumes nothing.
+-- `answer_command::grant_baud` meets its contract: the setting is that of the BRT that was read. Assumes nothing.
+use Rattle.flash.specs.declared.Act.the-variants.{Nothing}
+use Rattle.verdict.specs.declared.Verdict.the-variants.{Granted}
+use Rattle.answer_command.specs.Grants.{told}
+use Rattle.state.specs.declared.State.{State}
+use mathlib.Core.Path.{ap}
+use Rattle.answer_command.proofs.Granting.{tuned}
+use Rattle.answer.proofs.Sending.{answers-as}
 use borrow.Author.Needs.{needs}
-use Rattle.answer_command.proofs.Granting.{tuned-sent}
 use Rattle.answer_command.proofs.grant_baud.Statement.{statement}
 use Rattle.answer_command.proofs.grant_baud.Tie as tie
 
-four-at-requires : tie.Need-four-at-requires
-four-at-requires c κs = search needs
-
-setting-requires : tie.Need-setting-requires
-setting-requires c κs = search needs
-
-with-line-requires : tie.Need-with-line-requires
-with-line-requires c κs = search needs
-
-byte-at-requires : tie.Need-byte-at-requires
-byte-at-requires c κs = search needs
-
-tell-requires : tie.Need-tell-requires
-tell-requires c κs = search needs
-
-same-length : tie.Need-same-length
-same-length c = search needs
-
 returns : tie.Need-returns
-returns c =
-    let a = c .before .before .before .before .before .before .before .before .before .before .args in
-    tuned-sent (a .profile) (a .state) (a .packet .now) (c .before .before .before .before .before .before .before .four-at .result) (c .before .before .before .byte-at .result) (c .before .before .before .before .before .before .setting .result) (c .before .before .before .before .with-line .result) (c .before .before .before .before .before .before .before .four-at .ensures) (c .before .before .before .byte-at .ensures) (c .before .before .before .before .before .before .setting .ensures) (c .before .before .before .before .with-line .ensures) (c .before .before .tell .ensures)
+returns c = answers-as (ap (λ (s : State). told (c .before .before .before .before .before .before .before .before .before .before .args .packet .now) Granted Nothing s) (tuned (c .before .before .before .before .before .before .before .before .before .before .args .profile) (c .before .before .before .before .before .before .before .before .before .before .args .state) (c .before .before .before .before .before .before .before .before .before .before .args .packet .now) _ _ _ _ (c .before .before .before .before .before .before .before .four-at .ensures) (c .before .before .before .before .before .before .setting .ensures) (c .before .before .before .before .before .with-line .ensures) (c .before .before .before .before .with-held .ensures))) (c .before .before .accept .ensures)
 
 pub grant-baud-spec : {M : Type 1} → statement M
 grant-baud-spec =
-    tie.close
-    (tie.spec
-    four-at-requires
-    setting-requires
-    with-line-requires
-    byte-at-requires
-    tell-requires
-    same-length
-    returns)
+    tie.close (tie.spec (λ c κs. search needs) (λ c κs. search needs) (λ c κs. search needs)
+    (λ c κs. search needs) (λ c κs. search needs) (λ c. search needs) returns)

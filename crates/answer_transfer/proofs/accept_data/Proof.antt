@@ -1,58 +1,31 @@
 -- `answer_transfer::accept_data` meets its contract. Each part is the definition's. Assumes nothing.
-use Rattle.answer_transfer.proofs.Writing.{data-stored}
 use borrow.Author.Needs.{needs}
+use Rattle.state.specs.declared.Stage.the-variants.{Writing}
+use Rattle.answer_transfer.proofs.After.{after-all, after-some}
+use Rattle.answer_transfer.proofs.Writing.{data-stored}
 use Rattle.answer_transfer.proofs.accept_data.Statement.{statement}
 use Rattle.answer_transfer.proofs.accept_data.Tie as tie
 
-info-count-requires : tie.Need-info-count-requires
-info-count-requires c κs = search needs
-
-cast-count : tie.Need-cast-count
-cast-count c = search needs
-
-after-writing-requires : tie.Need-after-writing-requires
-after-writing-requires c κs = search needs
-
-in-stage-requires : tie.Need-in-stage-requires
-in-stage-requires c κs = search needs
-
-info-requires : tie.Need-info-requires
-info-requires c κs = search needs
-
-store-requires : tie.Need-store-requires
-store-requires c κs = search needs
-
-tell-requires : tie.Need-tell-requires
-tell-requires c κs = search needs
-
-same-length : tie.Need-same-length
-same-length c = search needs
-
-same-length-2 : tie.Need-same-length-2
-same-length-2 c = search needs
-
 returns : tie.Need-returns
 returns c =
-    let a = c .before .before .before .before .before .before .before .before .before .before .before .before .before .before .before .args in
-    data-stored (a .profile) (a .image .now) (a .state) (a .range) (a .packet .now)
-    (c .before .before .before .before .before .before .before .before .before .before .before .info-count .ensures)
-    (c .before .before .before .before .before .before .before .before .before .before .after-writing .ensures)
-    (c .before .before .before .before .before .before .before .before .before .in-stage .ensures)
-    (c .before .before .before .before .before .before .before .info .ensures)
-    (c .before .before .before .before .before .before .store .ensures)
+    let a = c .before .before .before .before .before .before .before .before .before .before .before .args in
+    data-stored (a .state) (a .range) (a .packet .now)
+    (c .before .before .before .before .before .before .before .before .info-count .ensures)
+    (after-all Writing (a .range) _ (c .before .before .before .before .before .if1 .taken))
+    (c .before .before .before .in-stage .ensures)
     (c .before .before .tell .ensures)
+
+returns-2 : tie.Need-returns-2
+returns-2 c =
+    let a = c .before .before .before .before .before .before .before .before .before .before .before .before .args in
+    data-stored (a .state) (a .range) (a .packet .now)
+    (c .before .before .before .before .before .before .before .before .before .info-count .ensures)
+    (after-some Writing (a .range) _ (c .before .before .before .before .before .before .if1 .left) (c .before .before .before .before .before .rest .ensures))
+    (c .before .before .before .in-stage2 .ensures)
+    (c .before .before .tell2 .ensures)
 
 pub accept-data-spec : {M : Type 1} → statement M
 accept-data-spec =
-    tie.close
-    (tie.spec
-    info-count-requires
-    cast-count
-    after-writing-requires
-    in-stage-requires
-    info-requires
-    store-requires
-    tell-requires
-    same-length
-    same-length-2
-    returns)
+    tie.close (tie.spec (λ c κs. search needs) (λ c. search needs) (λ c. search needs) (λ c κs. search needs)
+    (λ c κs. search needs) (λ c. search needs) returns (λ c κs. search needs) (λ c κs. search needs)
+    (λ c κs. search needs) (λ c. search needs) returns-2)

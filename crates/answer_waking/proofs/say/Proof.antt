@@ -5,14 +5,9 @@ use Rattle.answer_waking.proofs.Woken.{front-one}
 use Rattle.answer_waking.proofs.say.Statement.{statement}
 use Rattle.answer_waking.proofs.say.Tie as tie
 
-slice-write-reply : tie.Need-slice-write-reply
-slice-write-reply c = search needs
-
-same-length : tie.Need-same-length
-same-length c = search needs
-
 returns : tie.Need-returns
-returns c = record { state = refl; count = refl; reply = front-one (c .args .byte) (c .args .reply .now) (c .pre) }
+returns c =
+    record { act = refl; state = refl; count = refl; reply = front-one (c .args .byte) (c .args .reply .now) (c .pre) }
 
 pub say-spec : {M : Type 1} → statement M
-say-spec = tie.close (tie.spec slice-write-reply same-length returns)
+say-spec = tie.close (tie.spec (λ c. search needs) (λ c. search needs) returns)

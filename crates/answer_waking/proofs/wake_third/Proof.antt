@@ -2,33 +2,19 @@
 use borrow.Author.Tests.{eq-eqb, ne-eqb}
 use borrow.Author.Needs.{needs}
 use Rattle.state.specs.declared.Pulse.the-variants.{Zero, Acknowledged}
+use Rattle.answer.proofs.Sending.{answers-as}
 use Rattle.answer_waking.specs.Wake.{wakeOf}
-use Rattle.answer_waking.proofs.Woken.{went, said}
+use Rattle.answer_waking.proofs.Woken.{went}
 use Rattle.answer_waking.proofs.wake_third.Statement.{statement}
 use Rattle.answer_waking.proofs.wake_third.Tie as tie
 
-awaken-requires : tie.Need-awaken-requires
-awaken-requires c κs = search needs
-
-say-requires : tie.Need-say-requires
-say-requires c κs = search needs
-
-same-length : tie.Need-same-length
-same-length c = search needs
-
 returns : tie.Need-returns
 unfolding wakeOf
-returns c = said (simp (eq-eqb _ _ (c .before .before .before .before .before .if1 .taken), c .before .before .before .awaken .ensures)) (c .before .before .say .ensures)
-
-go-requires : tie.Need-go-requires
-go-requires c κs = search needs
+returns c = answers-as (simp (eq-eqb _ _ (c .before .before .before .before .before .if1 .taken), c .before .before .before .awaken .ensures)) (c .before .before .say .ensures)
 
 returns-2 : tie.Need-returns-2
 unfolding wakeOf
 returns-2 c = went (c .before .before .before .before .before .args .state) Acknowledged (simp (ne-eqb _ _ (c .before .before .if1 .left), eq-eqb _ _ (c .before .if2 .taken))) (c .go .ensures)
-
-go-requires-2 : tie.Need-go-requires-2
-go-requires-2 c κs = search needs
 
 returns-3 : tie.Need-returns-3
 unfolding wakeOf
@@ -36,13 +22,5 @@ returns-3 c = went (c .before .before .before .before .before .args .state) Zero
 
 pub wake-third-spec : {M : Type 1} → statement M
 wake-third-spec =
-    tie.close
-    (tie.spec
-    awaken-requires
-    say-requires
-    same-length
-    returns
-    go-requires
-    returns-2
-    go-requires-2
-    returns-3)
+    tie.close (tie.spec (λ c κs. search needs) (λ c κs. search needs) (λ c. search needs) returns
+    (λ c κs. search needs) returns-2 (λ c κs. search needs) returns-3)

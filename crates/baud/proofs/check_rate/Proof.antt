@@ -18,9 +18,6 @@ returns-2 c =
     let a = c .before .before .args in
     simp (ne-eqb (a .brt) 0 (c .before .if1 .left), lt-ltb (a .rmb) (a .brt) (omega arith))
 
-off-requires : tie.Need-off-requires
-off-requires c κs = search needs
-
 returns-3 : tie.Need-returns-3
 unfolding firstFault rateChecks
 returns-3 c =
@@ -34,4 +31,4 @@ returns-4 c =
     simp (ne-eqb (a .brt) 0 (c .before .before .before .if1 .left), le-ltb (a .rmb) (a .brt) (omega arith), sym (c .before .off .ensures) ∙ c .if3 .left)
 
 pub check-rate-spec : {M : Type 1} → statement M
-check-rate-spec = tie.close (tie.spec returns returns-2 off-requires returns-3 returns-4)
+check-rate-spec = tie.close (tie.spec returns returns-2 (λ c κs. search needs) returns-3 returns-4)

@@ -5,14 +5,8 @@ use Rattle.baud.proofs.Laws.{clocked-fast, clocked-slow}
 use Rattle.baud.proofs.clock.Statement.{statement}
 use Rattle.baud.proofs.clock.Tie as tie
 
-mul-steps : tie.Need-mul-steps
-mul-steps c = search needs
-
 returns : tie.Need-returns
 returns c = clocked-fast _ _ (omega arith)
-
-quotient-requires : tie.Need-quotient-requires
-quotient-requires c κs = search needs
 
 returns-2 : tie.Need-returns-2
 returns-2 c = clocked-slow _ _ _ (omega arith) (omega arith)
@@ -20,12 +14,10 @@ returns-2 c = clocked-slow _ _ _ (omega arith) (omega arith)
 returns-3 : tie.Need-returns-3
 returns-3 c = clocked-slow _ _ _ (omega arith) (omega arith)
 
-sub-t5 : tie.Need-sub-t5
-sub-t5 c = search needs
-
 returns-4 : tie.Need-returns-4
 returns-4 c = clocked-slow _ _ _ (omega arith) (omega arith)
 
 pub clock-spec : {M : Type 1} → statement M
 clock-spec =
-    tie.close (tie.spec mul-steps returns quotient-requires returns-2 returns-3 sub-t5 returns-4)
+    tie.close (tie.spec (λ c. search needs) returns (λ c κs. search needs) returns-2 returns-3
+    (λ c. search needs) returns-4)

@@ -6,12 +6,6 @@ use Rattle.baud.proofs.Laws.{divisor-below}
 use Rattle.baud.proofs.divisor.Statement.{statement}
 use Rattle.baud.proofs.divisor.Tie as tie
 
-mul-result : tie.Need-mul-result
-mul-result c = search needs
-
-add-result : tie.Need-add-result
-add-result c = search needs
-
 mul-result-2 : tie.Need-mul-result-2
 mul-result-2 c = omega (arith, divisor-below (c .before .before .pre .0) (c .before .before .pre .1))
 
@@ -19,4 +13,4 @@ returns : tie.Need-returns
 returns c = (refl, divisor-below (c .before .before .pre .0) (c .before .before .pre .1))
 
 pub divisor-spec : {M : Type 1} → statement M
-divisor-spec = tie.close (tie.spec mul-result add-result mul-result-2 returns)
+divisor-spec = tie.close (tie.spec (λ c. search needs) (λ c. search needs) mul-result-2 returns)

@@ -18,9 +18,6 @@ returns-2 c =
     let used = le-ltb 255 (c .before .before .args .m) (omega arith) in
     record { counts = simp used (omega arith); mddr = simp used (omega arith); most = omega arith }
 
-cast-t3 : tie.Need-cast-t3
-cast-t3 c = search needs
-
 returns-3 : tie.Need-returns-3
 unfolding countedM heldM
 returns-3 c =
@@ -28,4 +25,4 @@ returns-3 c =
     record { counts = simp used (omega arith); mddr = simp used (omega arith); most = omega arith }
 
 pub limit-spec : {M : Type 1} → statement M
-limit-spec = tie.close (tie.spec returns returns-2 cast-t3 returns-3)
+limit-spec = tie.close (tie.spec returns returns-2 (λ c. search needs) returns-3)

@@ -5,18 +5,6 @@ use Rattle.baud.proofs.Laws.{both-below, off-is}
 use Rattle.baud.proofs.off.Statement.{statement}
 use Rattle.baud.proofs.off.Tie as tie
 
-clock-requires : tie.Need-clock-requires
-clock-requires c κs = search needs
-
-divisor-requires : tie.Need-divisor-requires
-divisor-requires c κs = search needs
-
-rough-requires : tie.Need-rough-requires
-rough-requires c κs = search needs
-
-limit-requires : tie.Need-limit-requires
-limit-requires c κs = search needs
-
 mul-wanted : tie.Need-mul-wanted
 mul-wanted c =
     let b = c .before .before .before .before .fits in
@@ -31,9 +19,6 @@ mul-result : tie.Need-mul-result
 mul-result c =
     let b = c .before .before .before .before .before .fits in
     omega (arith, both-below (b .sci .fits) (b .brt .fits) (c .before .before .before .divisor .ensures .1) (c .before .limit .ensures .most))
-
-apart-requires : tie.Need-apart-requires
-apart-requires c κs = search needs
 
 mul-result-2 : tie.Need-mul-result-2
 mul-result-2 c =
@@ -51,15 +36,5 @@ returns c =
 
 pub off-spec : {M : Type 1} → statement M
 off-spec =
-    tie.close
-    (tie.spec
-    clock-requires
-    divisor-requires
-    rough-requires
-    limit-requires
-    mul-wanted
-    mul-given
-    mul-result
-    apart-requires
-    mul-result-2
-    returns)
+    tie.close (tie.spec (λ c κs. search needs) (λ c κs. search needs) (λ c κs. search needs)
+    (λ c κs. search needs) mul-wanted mul-given mul-result (λ c κs. search needs) mul-result-2 returns)

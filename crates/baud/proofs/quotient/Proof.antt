@@ -9,11 +9,8 @@ use Rattle.baud.proofs.quotient.Tie as tie
 returns : tie.Need-returns
 returns c = (simp (c .if1 .taken, div-zero), omega arith)
 
-div-result : tie.Need-div-result
-div-result c = search needs
-
 returns-2 : tie.Need-returns-2
 returns-2 c = (refl, div-le-self _ _)
 
 pub quotient-spec : {M : Type 1} → statement M
-quotient-spec = tie.close (tie.spec returns div-result returns-2)
+quotient-spec = tie.close (tie.spec returns (λ c. search needs) returns-2)

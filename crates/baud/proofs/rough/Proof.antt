@@ -8,11 +8,5 @@ use Rattle.baud.proofs.rough.Tie as tie
 mul-quotient : tie.Need-mul-quotient
 mul-quotient c = omega (arith, scaled 2097152 (c .fits .brt .fits) (c .pre))
 
-quotient-requires : tie.Need-quotient-requires
-quotient-requires c κs = search needs
-
-returns : tie.Need-returns
-returns c = search needs
-
 pub rough-spec : {M : Type 1} → statement M
-rough-spec = tie.close (tie.spec mul-quotient quotient-requires returns)
+rough-spec = tie.close (tie.spec mul-quotient (λ c κs. search needs) (λ c. search needs))

@@ -5,9 +5,6 @@ use Rattle.check_command.proofs.CommandLaws.{area-none, area-there}
 use Rattle.check_command.proofs.check_area_number.Statement.{statement}
 use Rattle.check_command.proofs.check_area_number.Tie as tie
 
-byte-at-requires : tie.Need-byte-at-requires
-byte-at-requires c κs = search needs
-
 returns : tie.Need-returns
 returns c = sym (area-none (c .before .before .before .args .noa) (c .before .before .before .args .packet .now) (c .before .byte-at .result) (c .before .byte-at .ensures) (c .if1 .taken))
 
@@ -15,4 +12,4 @@ returns-2 : tie.Need-returns-2
 returns-2 c = sym (area-there (c .before .before .before .args .noa) (c .before .before .before .args .packet .now) (c .before .byte-at .result) (c .before .byte-at .ensures) (c .if1 .left))
 
 pub check-area-number-spec : {M : Type 1} → statement M
-check-area-number-spec = tie.close (tie.spec byte-at-requires returns returns-2)
+check-area-number-spec = tie.close (tie.spec (λ c κs. search needs) returns returns-2)

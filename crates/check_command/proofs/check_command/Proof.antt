@@ -7,18 +7,6 @@ use Rattle.check_command.specs.Commands.{knownChecks, commandChecks}
 use Rattle.check_command.proofs.check_command.Statement.{statement}
 use Rattle.check_command.proofs.check_command.Tie as tie
 
-check-ending-requires : tie.Need-check-ending-requires
-check-ending-requires c κs = search needs
-
-enum-known-ending : tie.Need-enum-known-ending
-enum-known-ending c = search needs
-
-enum-told : tie.Need-enum-told
-enum-told c = search needs
-
-check-known-requires : tie.Need-check-known-requires
-check-known-requires c κs = search needs
-
 returns : tie.Need-returns
 unfolding commandChecks
 returns c =
@@ -38,11 +26,5 @@ returns-2 c =
 
 pub check-command-spec : {M : Type 1} → statement M
 check-command-spec =
-    tie.close
-    (tie.spec
-    check-ending-requires
-    enum-known-ending
-    enum-told
-    check-known-requires
-    returns
-    returns-2)
+    tie.close (tie.spec (λ c κs. search needs) (λ c. search needs) (λ c. search needs) (λ c κs. search needs)
+    returns returns-2)

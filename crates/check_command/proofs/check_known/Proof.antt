@@ -6,32 +6,12 @@ use Rattle.check_command.proofs.CommandLaws.{known-granted, known-refus
 use Rattle.check_command.proofs.check_known.Statement.{statement}
 use Rattle.check_command.proofs.check_known.Tie as tie
 
-byte-at-requires : tie.Need-byte-at-requires
-byte-at-requires c κs = search needs
-
-com-of-requires : tie.Need-com-of-requires
-com-of-requires c κs = search needs
-
-info-count-requires : tie.Need-info-count-requires
-info-count-requires c κs = search needs
-
-check-form-requires : tie.Need-check-form-requires
-check-form-requires c κs = search needs
-
-enum-known-form : tie.Need-enum-known-form
-enum-known-form c = search needs
-
-enum-told : tie.Need-enum-told
-enum-told c = search needs
-
-check-own-requires : tie.Need-check-own-requires
-check-own-requires c κs = search needs
-
 returns : tie.Need-returns
 returns c =
     let a = c .before .before .before .before .before .before .before .before .args in
     sym
-    (known-refused (a .profile) (a .state) (a .packet .now) (c .before .before .before .before .before .com-of .result) (c .before .before .before .before .info-count .result)
+    (known-refused (a .profile) (a .state) (a .packet .now) (c .before .before .before .before .before .before .byte-at .result) (c .before .before .before .before .before .com-of .result) (c .before .before .before .before .info-count .result)
+    (c .before .before .before .before .before .before .byte-at .ensures)
     (c .before .before .before .before .before .com-of .ensures ∙ ap comOf (c .before .before .before .before .before .before .byte-at .ensures))
     (c .before .before .before .before .info-count .ensures)
     _
@@ -42,21 +22,13 @@ returns-2 c =
     let a = c .before .before .before .before .before .before .before .before .args in
     c .check-own .ensures
     ∙ sym
-    (known-granted (a .profile) (a .state) (a .packet .now) (c .before .before .before .before .before .com-of .result) (c .before .before .before .before .info-count .result)
+    (known-granted (a .profile) (a .state) (a .packet .now) (c .before .before .before .before .before .before .byte-at .result) (c .before .before .before .before .before .com-of .result) (c .before .before .before .before .info-count .result)
+    (c .before .before .before .before .before .before .byte-at .ensures)
     (c .before .before .before .before .before .com-of .ensures ∙ ap comOf (c .before .before .before .before .before .before .byte-at .ensures))
     (c .before .before .before .before .info-count .ensures)
     (sym (c .before .before .before .check-form .ensures) ∙ c .before .enum-told .given .1))
 
 pub check-known-spec : {M : Type 1} → statement M
 check-known-spec =
-    tie.close
-    (tie.spec
-    byte-at-requires
-    com-of-requires
-    info-count-requires
-    check-form-requires
-    enum-known-form
-    enum-told
-    check-own-requires
-    returns
-    returns-2)
+    tie.close (tie.spec (λ c κs. search needs) (λ c κs. search needs) (λ c κs. search needs)
+    (λ c κs. search needs) (λ c. search needs) (λ c. search needs) (λ c κs. search needs) returns returns-2)

@@ -5,20 +5,11 @@ use Rattle.check_command.proofs.CommandLaws.{span-read}
 use Rattle.check_command.proofs.check_span.Statement.{statement}
 use Rattle.check_command.proofs.check_span.Tie as tie
 
-four-at-requires : tie.Need-four-at-requires
-four-at-requires c κs = search needs
-
-four-at-requires-2 : tie.Need-four-at-requires-2
-four-at-requires-2 c κs = search needs
-
-check-range-requires : tie.Need-check-range-requires
-check-range-requires c κs = search needs
-
 returns : tie.Need-returns
 returns c =
-    let a = c .before .before .before .before .before .args in
-    span-read (areasOf (a .profile)) (a .profile .window) (a .purpose) (a .packet .now) (c .before .before .before .four-at .ensures) (c .before .before .four-at2 .ensures) (c .check-range .ensures)
+    let a = c .before .before .before .before .args in
+    span-read (areasOf (a .profile)) (a .window) (a .purpose) (a .packet .now) (c .before .before .four-at .ensures) (c .before .four-at2 .ensures) (c .check-range .ensures)
 
 pub check-span-spec : {M : Type 1} → statement M
 check-span-spec =
-    tie.close (tie.spec four-at-requires four-at-requires-2 check-range-requires returns)
+    tie.close (tie.spec (λ c κs. search needs) (λ c κs. search needs) (λ c κs. search needs) returns)

@@ -7,18 +7,6 @@ use borrow.Author.Needs.{needs}
 use Rattle.check_transfer.proofs.check_next.Statement.{statement}
 use Rattle.check_transfer.proofs.check_next.Tie as tie
 
-check-ending-requires : tie.Need-check-ending-requires
-check-ending-requires c κs = search needs
-
-enum-known-ending : tie.Need-enum-known-ending
-enum-known-ending c = search needs
-
-enum-told : tie.Need-enum-told
-enum-told c = search needs
-
-check-request-requires : tie.Need-check-request-requires
-check-request-requires c κs = search needs
-
 returns : tie.Need-returns
 unfolding nextChecks
 returns c =
@@ -34,11 +22,5 @@ returns-2 c =
 
 pub check-next-spec : {M : Type 1} → statement M
 check-next-spec =
-    tie.close
-    (tie.spec
-    check-ending-requires
-    enum-known-ending
-    enum-told
-    check-request-requires
-    returns
-    returns-2)
+    tie.close (tie.spec (λ c κs. search needs) (λ c. search needs) (λ c. search needs) (λ c κs. search needs)
+    returns returns-2)

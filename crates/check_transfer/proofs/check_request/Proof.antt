@@ -7,9 +7,6 @@ use borrow.Author.Needs.{needs}
 use Rattle.check_transfer.proofs.check_request.Statement.{statement}
 use Rattle.check_transfer.proofs.check_request.Tie as tie
 
-asks-next-requires : tie.Need-asks-next-requires
-asks-next-requires c κs = search needs
-
 returns : tie.Need-returns
 unfolding requestChecks firstFault
 returns c = simp (sym (c .before .asks-next .ensures) ∙ not-true _ (c .if1 .taken))
@@ -19,4 +16,4 @@ unfolding requestChecks firstFault
 returns-2 c = simp (sym (c .before .asks-next .ensures) ∙ not-false _ (c .if1 .left))
 
 pub check-request-spec : {M : Type 1} → statement M
-check-request-spec = tie.close (tie.spec asks-next-requires returns returns-2)
+check-request-spec = tie.close (tie.spec (λ c κs. search needs) returns returns-2)

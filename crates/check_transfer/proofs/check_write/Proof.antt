@@ -8,18 +8,6 @@ use borrow.Author.Needs.{needs}
 use Rattle.check_transfer.proofs.check_write.Statement.{statement}
 use Rattle.check_transfer.proofs.check_write.Tie as tie
 
-check-ending-requires : tie.Need-check-ending-requires
-check-ending-requires c κs = search needs
-
-enum-known-ending : tie.Need-enum-known-ending
-enum-known-ending c = search needs
-
-enum-told : tie.Need-enum-told
-enum-told c = search needs
-
-check-target-requires : tie.Need-check-target-requires
-check-target-requires c κs = search needs
-
 returns : tie.Need-returns
 unfolding writeChecks
 returns c =
@@ -39,11 +27,5 @@ returns-2 c =
 
 pub check-write-spec : {M : Type 1} → statement M
 check-write-spec =
-    tie.close
-    (tie.spec
-    check-ending-requires
-    enum-known-ending
-    enum-told
-    check-target-requires
-    returns
-    returns-2)
+    tie.close (tie.spec (λ c κs. search needs) (λ c. search needs) (λ c. search needs) (λ c κs. search needs)
+    returns returns-2)

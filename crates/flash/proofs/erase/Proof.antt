@@ -17,22 +17,10 @@ Inv-loop image₀ sad ead profile used first behind base₀ i₀ image base i = 
 abbrev μ-loop : tie.MeasureT-loop
 μ-loop image₀ sad ead profile used first behind base₀ i₀ image base i = used - i
 
-used-requires : tie.Need-used-requires Inv-loop μ-loop
-used-requires c κs = search needs
-
-add-behind : tie.Need-add-behind Inv-loop μ-loop
-add-behind c = search needs
-
 loop-holds : tie.Need-loop-holds Inv-loop μ-loop
 loop-holds c =
     let a = c .before .before .args in
     walk-start (erasing (a .sad) (a .ead)) (a .t2) (c .used .result) (a .image .now) (c .used .ensures .0) (c .used .ensures .1)
-
-mul-area : tie.Need-mul-area Inv-loop μ-loop
-mul-area c = search needs
-
-element-copy-out-area : tie.Need-element-copy-out-area Inv-loop μ-loop
-element-copy-out-area c = search needs
 
 overlap-requires : tie.Need-overlap-requires Inv-loop μ-loop
 overlap-requires c κs = omega (arith, c .before .before .loop .inv .room)
@@ -46,20 +34,8 @@ part-fill-start c = omega (arith, c .overlap .ensures .order)
 part-fill-end : tie.Need-part-fill-end Inv-loop μ-loop
 part-fill-end c = omega (arith, c .overlap .ensures .fits)
 
-fill-requires : tie.Need-fill-requires Inv-loop μ-loop
-fill-requires c κs = search needs
-
-size-requires : tie.Need-size-requires Inv-loop μ-loop
-size-requires c κs = search needs
-
 add-base : tie.Need-add-base Inv-loop μ-loop
 add-base c = omega (arith, c .size .ensures .1, c .before .before .before .before .before .before .before .before .loop .inv .room)
-
-add-i : tie.Need-add-i Inv-loop μ-loop
-add-i c = search needs
-
-loop-less : tie.Need-loop-less Inv-loop μ-loop
-loop-less c = search needs
 
 loop-again : tie.Need-loop-again Inv-loop μ-loop
 unfolding replaced
@@ -84,24 +60,7 @@ returns c =
 
 pub erase-spec : {M : Type 1} → statement M
 erase-spec =
-    tie.close
-    (tie.spec
-    Inv-loop
-    μ-loop
-    used-requires
-    add-behind
-    loop-holds
-    mul-area
-    element-copy-out-area
-    overlap-requires
-    sub-fill
-    part-fill-start
-    part-fill-end
-    fill-requires
-    size-requires
-    add-base
-    add-i
-    loop-less
-    loop-again
-    same-length
-    returns)
+    tie.close (tie.spec Inv-loop μ-loop (λ c κs. search needs) (λ c. search needs) loop-holds
+    (λ c. search needs) (λ c. search needs) overlap-requires sub-fill part-fill-start part-fill-end
+    (λ c κs. search needs) (λ c κs. search needs) add-base (λ c. search needs) (λ c. search needs) loop-again
+    same-length returns)

@@ -4,15 +4,9 @@ use Rattle.flash.specs.Effects.{blanked}
 use Rattle.flash.proofs.erase_all.Statement.{statement}
 use Rattle.flash.proofs.erase_all.Tie as tie
 
-fill-requires : tie.Need-fill-requires
-fill-requires c κs = search needs
-
-same-length : tie.Need-same-length
-same-length c = search needs
-
 returns : tie.Need-returns
 unfolding blanked
 returns c = c .before .before .fill .ensures
 
 pub erase-all-spec : {M : Type 1} → statement M
-erase-all-spec = tie.close (tie.spec fill-requires same-length returns)
+erase-all-spec = tie.close (tie.spec (λ c κs. search needs) (λ c. search needs) returns)

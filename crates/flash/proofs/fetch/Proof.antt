@@ -9,24 +9,6 @@ use Rattle.flash.proofs.Clip.{fetched-as}
 use Rattle.flash.proofs.fetch.Statement.{statement}
 use Rattle.flash.proofs.fetch.Tie as tie
 
-locate-requires : tie.Need-locate-requires
-locate-requires c κs = search needs
-
-enum-told : tie.Need-enum-told
-enum-told c = search needs
-
-sub-result : tie.Need-sub-result
-sub-result c = search needs
-
-part-result-start : tie.Need-part-result-start
-part-result-start c = search needs
-
-part-result-end : tie.Need-part-result-end
-part-result-end c = search needs
-
-enum-known-place : tie.Need-enum-known-place
-enum-known-place c = search needs
-
 fetch-at-requires : tie.Need-fetch-at-requires
 fetch-at-requires c κs = subst (Bounded (c .before .before .before .before .before .args .address)) (c .before .place .given .1) (c .before .before .before .locate .ensures .bounds)
 
@@ -43,14 +25,5 @@ returns-2 c =
 
 pub fetch-spec : {M : Type 1} → statement M
 fetch-spec =
-    tie.close
-    (tie.spec
-    locate-requires
-    enum-told
-    sub-result
-    part-result-start
-    part-result-end
-    enum-known-place
-    fetch-at-requires
-    returns
-    returns-2)
+    tie.close (tie.spec (λ c κs. search needs) (λ c. search needs) (λ c. search needs) (λ c. search needs)
+    (λ c. search needs) (λ c. search needs) fetch-at-requires returns returns-2)

@@ -18,34 +18,13 @@ Inv-loop image₀ address bytes profile n start end base₀ i₀ image base i = 
 abbrev μ-loop : tie.MeasureT-loop
 μ-loop image₀ address bytes profile n start end base₀ i₀ image base i = n - i
 
-used-requires : tie.Need-used-requires Inv-loop μ-loop
-used-requires c κs = search needs
-
-add-end : tie.Need-add-end Inv-loop μ-loop
-add-end c = search needs
-
 loop-holds : tie.Need-loop-holds Inv-loop μ-loop
 loop-holds c =
     let a = c .before .before .before .args in
     walk-start (storing (a .address) (a .bytes .now)) (a .t2) (c .used .result) (a .image .now) (c .used .ensures .0) (c .used .ensures .1)
 
-mul-area : tie.Need-mul-area Inv-loop μ-loop
-mul-area c = search needs
-
-element-copy-out-area : tie.Need-element-copy-out-area Inv-loop μ-loop
-element-copy-out-area c = search needs
-
 overlap-requires : tie.Need-overlap-requires Inv-loop μ-loop
 overlap-requires c κs = omega (arith, c .before .before .loop .inv .room)
-
-cast-above : tie.Need-cast-above Inv-loop μ-loop
-cast-above c = search needs
-
-above-requires : tie.Need-above-requires Inv-loop μ-loop
-above-requires c κs = search needs
-
-lower-requires : tie.Need-lower-requires Inv-loop μ-loop
-lower-requires c κs = search needs
 
 sub-last : tie.Need-sub-last Inv-loop μ-loop
 sub-last c = omega (arith, c .before .before .before .overlap .ensures .order)
@@ -91,17 +70,8 @@ copy-requires c κs =
     let e = store-count d (w .base) (p .from) (p .to) (w .image) (a .address) vs (c .before .before .lower .result) (o .ensures) s in
     omega (arith, e)
 
-size-requires : tie.Need-size-requires Inv-loop μ-loop
-size-requires c κs = search needs
-
 add-base : tie.Need-add-base Inv-loop μ-loop
 add-base c = omega (arith, c .size .ensures .1, c .before .before .before .before .before .before .before .before .before .before .before .before .loop .inv .room)
-
-add-i : tie.Need-add-i Inv-loop μ-loop
-add-i c = search needs
-
-loop-less : tie.Need-loop-less Inv-loop μ-loop
-loop-less c = search needs
 
 loop-again : tie.Need-loop-again Inv-loop μ-loop
 unfolding replaced
@@ -129,32 +99,8 @@ returns c =
 
 pub store-spec : {M : Type 1} → statement M
 store-spec =
-    tie.close
-    (tie.spec
-    Inv-loop
-    μ-loop
-    used-requires
-    add-end
-    loop-holds
-    mul-area
-    element-copy-out-area
-    overlap-requires
-    cast-above
-    above-requires
-    lower-requires
-    sub-last
-    add-last
-    sub-copy
-    part-copy-start
-    part-copy-end
-    sub-copy-2
-    part-copy-start-2
-    part-copy-end-2
-    copy-requires
-    size-requires
-    add-base
-    add-i
-    loop-less
-    loop-again
-    same-length
-    returns)
+    tie.close (tie.spec Inv-loop μ-loop (λ c κs. search needs) (λ c. search needs) loop-holds
+    (λ c. search needs) (λ c. search needs) overlap-requires (λ c. search needs) (λ c κs. search needs)
+    (λ c κs. search needs) sub-last add-last sub-copy part-copy-start part-copy-end sub-copy-2 part-copy-start-2
+    part-copy-end-2 copy-requires (λ c κs. search needs) add-base (λ c. search needs) (λ c. search needs)
+    loop-again same-length returns)

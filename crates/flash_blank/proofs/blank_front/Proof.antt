@@ -2,7 +2,6 @@
 use mathlib.Core.Bool.{true}
 use mathlib.Core.Path.{_≡_, sym, _∙_}
 use Prim.Native.Nat.{_-_, _≤_}
-use native.Mathlib.Omega.{arith}
 use lib.ListN.{length, take}
 use borrow.Author.Needs.{needs}
 use borrow.Author.Tests.{not-false}
@@ -19,21 +18,6 @@ abbrev μ-loop : tie.MeasureT-loop
 
 loop-holds : tie.Need-loop-holds Inv-loop μ-loop
 loop-holds c = (c .before .pre .1, c .before .pre .2)
-
-unit-end-requires : tie.Need-unit-end-requires Inv-loop μ-loop
-unit-end-requires c κs = search needs
-
-sub-is-blank : tie.Need-sub-is-blank Inv-loop μ-loop
-sub-is-blank c = search needs
-
-part-is-blank-start : tie.Need-part-is-blank-start Inv-loop μ-loop
-part-is-blank-start c = search needs
-
-part-is-blank-end : tie.Need-part-is-blank-end Inv-loop μ-loop
-part-is-blank-end c = search needs
-
-is-blank-requires : tie.Need-is-blank-requires Inv-loop μ-loop
-is-blank-requires c κs = search needs
 
 returns : tie.Need-returns Inv-loop μ-loop
 returns c = c .before .before .before .before .before .loop .inv
@@ -56,17 +40,5 @@ returns-2 c = c .before .loop .inv
 
 pub blank-front-spec : {M : Type 1} → statement M
 blank-front-spec =
-    tie.close
-    (tie.spec
-    Inv-loop
-    μ-loop
-    loop-holds
-    unit-end-requires
-    sub-is-blank
-    part-is-blank-start
-    part-is-blank-end
-    is-blank-requires
-    returns
-    loop-less
-    loop-again
-    returns-2)
+    tie.close (tie.spec Inv-loop μ-loop loop-holds (λ c κs. search needs) (λ c. search needs)
+    (λ c. search needs) (λ c. search needs) (λ c κs. search needs) returns loop-less loop-again returns-2)

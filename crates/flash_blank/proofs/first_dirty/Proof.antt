@@ -7,7 +7,7 @@ use lib.ListN.{length, drop}
 use borrow.Author.Needs.{needs}
 use Rattle.flash_blank.specs.declared.Search.the-variants.{Clean, Dirty}
 use Rattle.flash_blank.specs.Blank.{searched, searchedFrom}
-use Rattle.flash_blank.proofs.Units.{search-next, search-found, search-end, next-unit, unit-number, number-fits, unit-before, unit-behind, front-within, later-within, front-start, front-passed}
+use Rattle.flash_blank.proofs.Units.{search-next, search-found, search-end, next-unit, unit-number, number-fits, unit-before, unit-behind, front-within, later-within, front-passed}
 use Rattle.flash_blank.proofs.first_dirty.Statement.{statement}
 use Rattle.flash_blank.proofs.first_dirty.Tie as tie
 
@@ -22,9 +22,6 @@ Inv-units target unit step front found₀ number₀ at₀ found number at = (fou
 
 abbrev μ-units : tie.MeasureT-units
 μ-units target unit step front found₀ number₀ at₀ found number at = length target - at
-
-passed-requires : tie.Need-passed-requires Inv-loop μ-loop Inv-units μ-units
-passed-requires c κs = search needs
 
 div-number : tie.Need-div-number Inv-loop μ-loop Inv-units μ-units
 div-number c =
@@ -55,12 +52,6 @@ units-holds c =
           ∙ ap (λ (k : ℕ). searchedFrom step k (drop k l)) m,
     )
 
-unit-end-requires : tie.Need-unit-end-requires Inv-loop μ-loop Inv-units μ-units
-unit-end-requires c κs = search needs
-
-upper-requires : tie.Need-upper-requires Inv-loop μ-loop Inv-units μ-units
-upper-requires c κs = search needs
-
 loop-holds : tie.Need-loop-holds Inv-loop μ-loop Inv-units μ-units
 loop-holds c =
     let l = c .before .before .before .before .before .before .before .before .args .target .now in
@@ -70,15 +61,6 @@ loop-holds c =
     let e = c .upper .ensures in
     let w = later-within front (u .at) step (length l) (c .before .unit-end .result) (c .before .unit-end .ensures) (u .inv .3) (c .before .before .before .before .before .passed .ensures .0) (omega arith) in
     (u .inv .0, omega arith, omega arith, u .inv .4 ∙ ap (λ (k : ℕ). searchedFrom step k (drop k l)) (sym e))
-
-shared-slice-read-if2 : tie.Need-shared-slice-read-if2 Inv-loop μ-loop Inv-units μ-units
-shared-slice-read-if2 c = search needs
-
-add-k : tie.Need-add-k Inv-loop μ-loop Inv-units μ-units
-add-k c = search needs
-
-loop-less : tie.Need-loop-less Inv-loop μ-loop Inv-units μ-units
-loop-less c = search needs
 
 loop-again : tie.Need-loop-again Inv-loop μ-loop Inv-units μ-units
 loop-again c =
@@ -132,25 +114,6 @@ returns-2 c =
 
 pub first-dirty-spec : {M : Type 1} → statement M
 first-dirty-spec =
-    tie.close
-    (tie.spec
-    Inv-loop
-    μ-loop
-    Inv-units
-    μ-units
-    passed-requires
-    div-number
-    mul-at
-    units-holds
-    unit-end-requires
-    upper-requires
-    loop-holds
-    shared-slice-read-if2
-    add-k
-    loop-less
-    loop-again
-    add-number
-    units-less
-    units-again
-    returns
-    returns-2)
+    tie.close (tie.spec Inv-loop μ-loop Inv-units μ-units (λ c κs. search needs) div-number mul-at units-holds
+    (λ c κs. search needs) (λ c κs. search needs) loop-holds (λ c. search needs) (λ c. search needs)
+    (λ c. search needs) loop-again add-number units-less units-again returns returns-2)

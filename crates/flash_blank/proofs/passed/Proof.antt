@@ -8,15 +8,6 @@ use Rattle.flash_blank.proofs.passed.Tie as tie
 blank-front-requires : tie.Need-blank-front-requires
 blank-front-requires c κs = (omega arith, omega arith, front-start (c .before .args .target .now))
 
-blank-front-requires-2 : tie.Need-blank-front-requires-2
-blank-front-requires-2 c κs = search needs
-
-blank-front-requires-3 : tie.Need-blank-front-requires-3
-blank-front-requires-3 c κs = search needs
-
-returns : tie.Need-returns
-returns c = search needs
-
 pub passed-spec : {M : Type 1} → statement M
 passed-spec =
-    tie.close (tie.spec blank-front-requires blank-front-requires-2 blank-front-requires-3 returns)
+    tie.close (tie.spec blank-front-requires (λ c κs. search needs) (λ c κs. search needs) (λ c. search needs))

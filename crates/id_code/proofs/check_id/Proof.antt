@@ -10,29 +10,17 @@ use Rattle.id_code.specs.Identity.{bit127, idChecks}
 use Rattle.id_code.proofs.check_id.Statement.{statement}
 use Rattle.id_code.proofs.check_id.Tie as tie
 
-array-read-if1 : tie.Need-array-read-if1
-array-read-if1 c = search needs
-
 returns : tie.Need-returns
 unfolding firstFault idChecks bit127
 returns c =
     let locked : getD (c .before .before .args .t1) 0 0 < 128 = omega arith in
     simp (lt-leb _ _ locked)
 
-is-total-erase-requires : tie.Need-is-total-erase-requires
-is-total-erase-requires c κs = search needs
-
 returns-2 : tie.Need-returns-2
 unfolding firstFault idChecks bit127
 returns-2 c =
     let unlocked : 128 ≤ getD (c .before .before .before .before .args .t1) 0 0 = omega arith in
     simp (le-leb _ _ unlocked, sym (c .before .is-total-erase .ensures) ∙ c .if2 .taken)
-
-slice-aggregate-equal : tie.Need-slice-aggregate-equal
-slice-aggregate-equal c = search needs
-
-equal-requires : tie.Need-equal-requires
-equal-requires c κs = search needs
 
 returns-3 : tie.Need-returns-3
 unfolding firstFault idChecks bit127
@@ -48,13 +36,5 @@ returns-4 c =
 
 pub check-id-spec : {M : Type 1} → statement M
 check-id-spec =
-    tie.close
-    (tie.spec
-    array-read-if1
-    returns
-    is-total-erase-requires
-    returns-2
-    slice-aggregate-equal
-    equal-requires
-    returns-3
-    returns-4)
+    tie.close (tie.spec (λ c. search needs) returns (λ c κs. search needs) returns-2 (λ c. search needs)
+    (λ c κs. search needs) returns-3 returns-4)

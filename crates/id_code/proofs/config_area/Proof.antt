@@ -16,17 +16,8 @@ Inv-loop profile n base₀ i₀ base i = (i ≤ n) × (n ≤ 8) × (base ≤ 429
 abbrev μ-loop : tie.MeasureT-loop
 μ-loop profile n base₀ i₀ base i = n - i
 
-used-requires : tie.Need-used-requires Inv-loop μ-loop
-used-requires c κs = search needs
-
 loop-holds : tie.Need-loop-holds Inv-loop μ-loop
 loop-holds c = (omega arith, c .used .ensures .1, omega arith, ap (λ l. configFrom 0 l) (sym (entries-start (c .before .args .t1) (c .used .result) (c .used .ensures .0))))
-
-mul-area : tie.Need-mul-area Inv-loop μ-loop
-mul-area c = search needs
-
-element-copy-out-area : tie.Need-element-copy-out-area Inv-loop μ-loop
-element-copy-out-area c = search needs
 
 returns : tie.Need-returns Inv-loop μ-loop
 returns c =
@@ -35,17 +26,8 @@ returns c =
     let n = c .before .before .before .before .before .used .result in
     record { is = sym (l .inv .3 ∙ config-here (a .t1 .areas) (l .base) (l .i) n (c .before .before .before .loop-test .taken) (c .if1 .taken)); bound = omega arith }
 
-size-requires : tie.Need-size-requires Inv-loop μ-loop
-size-requires c κs = search needs
-
 add-base : tie.Need-add-base Inv-loop μ-loop
 add-base c = omega (arith, c .size .ensures .1)
-
-add-i : tie.Need-add-i Inv-loop μ-loop
-add-i c = search needs
-
-loop-less : tie.Need-loop-less Inv-loop μ-loop
-loop-less c = search needs
 
 loop-again : tie.Need-loop-again Inv-loop μ-loop
 loop-again c =
@@ -63,18 +45,6 @@ returns-2 c =
 
 pub config-area-spec : {M : Type 1} → statement M
 config-area-spec =
-    tie.close
-    (tie.spec
-    Inv-loop
-    μ-loop
-    used-requires
-    loop-holds
-    mul-area
-    element-copy-out-area
-    returns
-    size-requires
-    add-base
-    add-i
-    loop-less
-    loop-again
-    returns-2)
+    tie.close (tie.spec Inv-loop μ-loop (λ c κs. search needs) loop-holds (λ c. search needs)
+    (λ c. search needs) returns (λ c κs. search needs) add-base (λ c. search needs) (λ c. search needs)
+    loop-again returns-2)

@@ -6,15 +6,9 @@ use Rattle.id_code.specs.Identity.{totalErase, bit126}
 use Rattle.id_code.proofs.is_total_erase.Statement.{statement}
 use Rattle.id_code.proofs.is_total_erase.Tie as tie
 
-is-erase-code-requires : tie.Need-is-erase-code-requires
-is-erase-code-requires c κs = search needs
-
 returns : tie.Need-returns
 unfolding totalErase
 returns c = simp (sym (c .before .is-erase-code .ensures) ∙ not-true _ (c .if1 .taken))
-
-array-read-result : tie.Need-array-read-result
-array-read-result c = search needs
 
 returns-2 : tie.Need-returns-2
 unfolding totalErase bit126
@@ -22,4 +16,4 @@ returns-2 c = simp (sym (c .before .is-erase-code .ensures) ∙ not-false _ (c .
 
 pub is-total-erase-spec : {M : Type 1} → statement M
 is-total-erase-spec =
-    tie.close (tie.spec is-erase-code-requires returns array-read-result returns-2)
+    tie.close (tie.spec (λ c κs. search needs) returns (λ c. search needs) returns-2)

@@ -5,15 +5,6 @@ use Rattle.id_code.specs.Identity.{PlacedBelow, idAt, idOf}
 use Rattle.id_code.proofs.stored_id.Statement.{statement}
 use Rattle.id_code.proofs.stored_id.Tie as tie
 
-config-area-requires : tie.Need-config-area-requires
-config-area-requires c κs = search needs
-
-enum-told : tie.Need-enum-told
-enum-told c = search needs
-
-enum-known-place : tie.Need-enum-known-place
-enum-known-place c = search needs
-
 sixteen-requires : tie.Need-sixteen-requires
 sixteen-requires c κs = subst PlacedBelow (c .before .place .given .1) (c .before .before .before .config-area .ensures .bound)
 
@@ -27,5 +18,5 @@ returns-2 c = c .sixteen .ensures ∙ ap (λ p. idAt p (c .before .before .befor
 
 pub stored-id-spec : {M : Type 1} → statement M
 stored-id-spec =
-    tie.close
-    (tie.spec config-area-requires enum-told enum-known-place sixteen-requires returns returns-2)
+    tie.close (tie.spec (λ c κs. search needs) (λ c. search needs) (λ c. search needs) sixteen-requires returns
+    returns-2)

@@ -5,26 +5,11 @@ use borrow.Author.Needs.{needs}
 use Rattle.interface.proofs.indraveck_reset.Statement.{statement}
 use Rattle.interface.proofs.indraveck_reset.Tie as tie
 
-begin-requires : tie.Need-begin-requires
-begin-requires c κs = search needs
-
-number-requires : tie.Need-number-requires
-number-requires c κs = search needs
-
-put-requires : tie.Need-put-requires
-put-requires c κs = search needs
-
-cast-result : tie.Need-cast-result
-cast-result c = search needs
-
-same-length : tie.Need-same-length
-same-length c = search needs
-
 returns : tie.Need-returns
 returns c = let a = c .before .before .before .before .before .before .before .before .before .before .args in
     was-reset (a .profile .now) (length (a .image .now)) (a .state .now) (c .before .before .put .last .0) (c .before .before .before .before .before .before .begin .result) (c .before .before .before .before .before .before .begin .ensures) (c .before .before .before .before .number .result) (c .before .before .before .before .number .ensures) (c .before .before .put .ensures)
 
 pub indraveck-reset-spec : {M : Type 1} → statement M
 indraveck-reset-spec =
-    tie.close
-    (tie.spec begin-requires number-requires put-requires cast-result same-length returns)
+    tie.close (tie.spec (λ c κs. search needs) (λ c κs. search needs) (λ c κs. search needs) (λ c. search needs)
+    (λ c. search needs) returns)

@@ -8,12 +8,6 @@ use Rattle.interface.proofs.put.Tie as tie
 returns : tie.Need-returns
 returns c = simp (ne-eqb _ _ (c .before .if1 .taken), not-true (c .before .before .before .args .always) (c .if2 .taken))
 
-put-state-requires : tie.Need-put-state-requires
-put-state-requires c κs = search needs
-
-same-length : tie.Need-same-length
-same-length c = search needs
-
 returns-2 : tie.Need-returns-2
 returns-2 c = let a = c .before .before .before .before .before .before .args in
     ⊎-elim
@@ -22,4 +16,4 @@ returns-2 c = let a = c .before .before .before .before .before .before .args in
     (c .before .before .before .before .if1 .came)
 
 pub put-spec : {M : Type 1} → statement M
-put-spec = tie.close (tie.spec returns put-state-requires same-length returns-2)
+put-spec = tie.close (tie.spec returns (λ c κs. search needs) (λ c. search needs) returns-2)

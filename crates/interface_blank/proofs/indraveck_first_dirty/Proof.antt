@@ -6,15 +6,6 @@ use Rattle.interface_blank.specs.Number.{numberIn}
 use Rattle.interface_blank.proofs.indraveck_first_dirty.Statement.{statement}
 use Rattle.interface_blank.proofs.indraveck_first_dirty.Tie as tie
 
-first-dirty-requires : tie.Need-first-dirty-requires
-first-dirty-requires c κs = search needs
-
-enum-told : tie.Need-enum-told
-enum-told c = search needs
-
-enum-known-found : tie.Need-enum-known-found
-enum-known-found c = search needs
-
 returns : tie.Need-returns
 returns c =
     let n = length (c .before .before .before .before .args .target .now) in
@@ -27,4 +18,4 @@ returns-2 c =
 
 pub indraveck-first-dirty-spec : {M : Type 1} → statement M
 indraveck-first-dirty-spec =
-    tie.close (tie.spec first-dirty-requires enum-told enum-known-found returns returns-2)
+    tie.close (tie.spec (λ c κs. search needs) (λ c. search needs) (λ c. search needs) returns returns-2)

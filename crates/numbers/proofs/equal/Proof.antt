@@ -20,23 +20,11 @@ returns c = sym (same-longer (c .before .args .a .now) (c .before .args .b .now)
 loop-holds : tie.Need-loop-holds Inv-loop μ-loop
 loop-holds c = (search needs, c .if1 .left, refl)
 
-shared-slice-read-if2 : tie.Need-shared-slice-read-if2 Inv-loop μ-loop
-shared-slice-read-if2 c = search needs
-
-shared-slice-read-if2-2 : tie.Need-shared-slice-read-if2-2 Inv-loop μ-loop
-shared-slice-read-if2-2 c = search needs
-
 returns-2 : tie.Need-returns-2 Inv-loop μ-loop
 returns-2 c =
     let a = c .before .before .before .before .before .before .args in
     let l = c .before .before .before .before .loop in
     sym (l .inv .2 ∙ same-differs (a .a .now) (a .b .now) (l .i) (l .inv .1) (c .before .before .before .loop-test .taken) (c .if2 .taken))
-
-add-i : tie.Need-add-i Inv-loop μ-loop
-add-i c = search needs
-
-loop-less : tie.Need-loop-less Inv-loop μ-loop
-loop-less c = search needs
 
 loop-again : tie.Need-loop-again Inv-loop μ-loop
 loop-again c =
@@ -52,16 +40,5 @@ returns-3 c =
 
 pub equal-spec : {M : Type 1} → statement M
 equal-spec =
-    tie.close
-    (tie.spec
-    Inv-loop
-    μ-loop
-    returns
-    loop-holds
-    shared-slice-read-if2
-    shared-slice-read-if2-2
-    returns-2
-    add-i
-    loop-less
-    loop-again
-    returns-3)
+    tie.close (tie.spec Inv-loop μ-loop returns loop-holds (λ c. search needs) (λ c. search needs) returns-2
+    (λ c. search needs) (λ c. search needs) loop-again returns-3)

@@ -8,20 +8,11 @@ use borrow.Author.Needs.{needs}
 use Rattle.numbers.proofs.read_two.Statement.{statement}
 use Rattle.numbers.proofs.read_two.Tie as tie
 
-has-field-requires : tie.Need-has-field-requires
-has-field-requires c κs = search needs
-
 returns : tie.Need-returns
 returns c = read-short 2 (c .before .before .before .args .s .now) (c .before .before .before .args .at) (no-room (c .before .before .before .args .at) 2 (length (c .before .before .before .args .s .now)) _ (c .before .has-field .ensures) (c .if1 .taken))
 
 shared-slice-read-wide : tie.Need-shared-slice-read-wide
 shared-slice-read-wide c = omega (arith, room (c .before .before .before .before .args .at) 2 (length (c .before .before .before .before .args .s .now)) _ (c .before .before .has-field .ensures) (c .before .if1 .left))
-
-wide-requires : tie.Need-wide-requires
-wide-requires c κs = search needs
-
-mul-t9 : tie.Need-mul-t9
-mul-t9 c = search needs
 
 add-wide : tie.Need-add-wide
 add-wide c = omega (arith, room (c .before .before .before .before .before .args .at) 2 (length (c .before .before .before .before .before .args .s .now)) _ (c .before .before .before .has-field .ensures) (c .before .before .if1 .left))
@@ -29,27 +20,11 @@ add-wide c = omega (arith, room (c .before .before .before .before .before .args
 shared-slice-read-wide-2 : tie.Need-shared-slice-read-wide-2
 shared-slice-read-wide-2 c = omega (arith, room (c .before .before .before .before .before .before .args .at) 2 (length (c .before .before .before .before .before .before .args .s .now)) _ (c .before .before .before .before .has-field .ensures) (c .before .before .before .if1 .left))
 
-wide-requires-2 : tie.Need-wide-requires-2
-wide-requires-2 c κs = search needs
-
-add-t13 : tie.Need-add-t13
-add-t13 c = search needs
-
 returns-2 : tie.Need-returns-2
 unfolding digits number
 returns-2 c = read-field 2 (c .before .before .before .before .before .before .before .args .s .now) (c .before .before .before .before .before .before .before .args .at) _ (room (c .before .before .before .before .before .before .before .args .at) 2 (length (c .before .before .before .before .before .before .before .args .s .now)) _ (c .before .before .before .before .before .has-field .ensures) (c .before .before .before .before .if1 .left)) (rw (add-zero (c .before .before .before .before .before .before .before .args .at)) (omega arith))
 
 pub read-two-spec : {M : Type 1} → statement M
 read-two-spec =
-    tie.close
-    (tie.spec
-    has-field-requires
-    returns
-    shared-slice-read-wide
-    wide-requires
-    mul-t9
-    add-wide
-    shared-slice-read-wide-2
-    wide-requires-2
-    add-t13
-    returns-2)
+    tie.close (tie.spec (λ c κs. search needs) returns shared-slice-read-wide (λ c κs. search needs)
+    (λ c. search needs) add-wide shared-slice-read-wide-2 (λ c κs. search needs) (λ c. search needs) returns-2)

@@ -14,30 +14,9 @@ returns : tie.Need-returns
 unfolding firstFault endingChecks
 returns c = simp (lt-ltb _ _ (c .if1 .taken))
 
-sub-if2 : tie.Need-sub-if2
-sub-if2 c = search needs
-
-shared-slice-read-if2 : tie.Need-shared-slice-read-if2
-shared-slice-read-if2 c = search needs
-
 returns-2 : tie.Need-returns-2
 unfolding firstFault endingChecks
 returns-2 c = simp (le-ltb _ _ (c .before .before .if1 .left), ne-eqb _ _ (c .if2 .taken))
-
-sub-end : tie.Need-sub-end
-sub-end c = search needs
-
-sub-sum : tie.Need-sub-sum
-sub-sum c = search needs
-
-part-sum-start : tie.Need-part-sum-start
-part-sum-start c = search needs
-
-part-sum-end : tie.Need-part-sum-end
-part-sum-end c = search needs
-
-sum-requires : tie.Need-sum-requires
-sum-requires c κs = search needs
 
 returns-3 : tie.Need-returns-3
 unfolding firstFault endingChecks
@@ -53,16 +32,5 @@ returns-4 c = let n = length (c .before .before .before .before .before .before 
 
 pub check-ending-spec : {M : Type 1} → statement M
 check-ending-spec =
-    tie.close
-    (tie.spec
-    returns
-    sub-if2
-    shared-slice-read-if2
-    returns-2
-    sub-end
-    sub-sum
-    part-sum-start
-    part-sum-end
-    sum-requires
-    returns-3
-    returns-4)
+    tie.close (tie.spec returns (λ c. search needs) (λ c. search needs) returns-2 (λ c. search needs)
+    (λ c. search needs) (λ c. search needs) (λ c. search needs) (λ c κs. search needs) returns-3 returns-4)

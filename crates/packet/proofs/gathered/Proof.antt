@@ -11,30 +11,9 @@ returns : tie.Need-returns
 unfolding progressOf
 returns c = simp (eq-eqb _ _ (c .if1 .taken))
 
-shared-slice-read-if2 : tie.Need-shared-slice-read-if2
-shared-slice-read-if2 c = search needs
-
-start-byte-requires : tie.Need-start-byte-requires
-start-byte-requires c κs = search needs
-
 returns-2 : tie.Need-returns-2
 unfolding progressOf
 returns-2 c = simp (ne-eqb _ _ (c .before .before .before .if1 .left), ← c .before .start-byte .ensures, ne-eqb _ _ (c .if2 .taken))
-
-read-two-requires : tie.Need-read-two-requires
-read-two-requires c κs = search needs
-
-enum-told : tie.Need-enum-told
-enum-told c = search needs
-
-enum-known-length : tie.Need-enum-known-length
-enum-known-length c = search needs
-
-cast-measured : tie.Need-cast-measured
-cast-measured c = search needs
-
-measured-requires : tie.Need-measured-requires
-measured-requires c κs = search needs
 
 returns-3 : tie.Need-returns-3
 unfolding progressOf
@@ -47,16 +26,5 @@ returns-4 c = let e = sym (c .before .before .before .before .read-two .ensures)
 
 pub gathered-spec : {M : Type 1} → statement M
 gathered-spec =
-    tie.close
-    (tie.spec
-    returns
-    shared-slice-read-if2
-    start-byte-requires
-    returns-2
-    read-two-requires
-    enum-told
-    enum-known-length
-    cast-measured
-    measured-requires
-    returns-3
-    returns-4)
+    tie.close (tie.spec returns (λ c. search needs) (λ c κs. search needs) returns-2 (λ c κs. search needs)
+    (λ c. search needs) (λ c. search needs) (λ c. search needs) (λ c κs. search needs) returns-3 returns-4)

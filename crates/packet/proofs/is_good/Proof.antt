@@ -5,27 +5,9 @@ use Rattle.packet.specs.Packet.{good}
 use borrow.Author.Needs.{needs}
 use mathlib.Core.Path.{sym, _∙_}
 
-gathered-requires : tie.Need-gathered-requires
-gathered-requires c κs = search needs
-
-is-complete-requires : tie.Need-is-complete-requires
-is-complete-requires c κs = search needs
-
-ends-well-requires : tie.Need-ends-well-requires
-ends-well-requires c κs = search needs
-
 returns : tie.Need-returns
 unfolding good
 returns c = simp (← c .before .before .before .gathered .ensures, sym (c .before .before .is-complete .ensures) ∙ c .before .if1 .taken) (c .ends-well .ensures)
-
-gathered-requires-2 : tie.Need-gathered-requires-2
-gathered-requires-2 c κs = search needs
-
-is-complete-requires-2 : tie.Need-is-complete-requires-2
-is-complete-requires-2 c κs = search needs
-
-ends-well-requires-2 : tie.Need-ends-well-requires-2
-ends-well-requires-2 c κs = search needs
 
 returns-2 : tie.Need-returns-2
 unfolding good
@@ -37,14 +19,5 @@ returns-3 c = simp (← c .before .before .before .before .before .gathered .ens
 
 pub is-good-spec : {M : Type 1} → statement M
 is-good-spec =
-    tie.close
-    (tie.spec
-    gathered-requires
-    is-complete-requires
-    ends-well-requires
-    returns
-    gathered-requires-2
-    is-complete-requires-2
-    ends-well-requires-2
-    returns-2
-    returns-3)
+    tie.close (tie.spec (λ c κs. search needs) (λ c κs. search needs) (λ c κs. search needs) returns
+    (λ c κs. search needs) (λ c κs. search needs) (λ c κs. search needs) returns-2 returns-3)

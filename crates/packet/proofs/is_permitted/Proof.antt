@@ -9,12 +9,6 @@ returns : tie.Need-returns
 unfolding permitted
 returns c = simp (lt-leb _ _ (c .if1 .taken))
 
-enum-told : tie.Need-enum-told
-enum-told c = search needs
-
-enum-told-2 : tie.Need-enum-told-2
-enum-told-2 c = search needs
-
 returns-2 : tie.Need-returns-2
 unfolding permitted
 returns-2 c = simp (c .enum-told .given .1, le-leb _ _ (c .before .before .if1 .left))
@@ -24,4 +18,5 @@ unfolding permitted
 returns-3 c = simp (c .enum-told2 .given .1, le-leb _ _ (c .before .before .if1 .left))
 
 pub is-permitted-spec : {M : Type 1} → statement M
-is-permitted-spec = tie.close (tie.spec returns enum-told enum-told-2 returns-2 returns-3)
+is-permitted-spec =
+    tie.close (tie.spec returns (λ c. search needs) (λ c. search needs) returns-2 returns-3)

@@ -8,9 +8,6 @@ use borrow.Author.Tests.{lt-ltb, le-ltb, eq-eqb, ne-eqb, not-true, not-false}
 use mathlib.Core.Path.{sym, _∙_}
 use native.Mathlib.Omega.{arith}
 
-is-permitted-requires : tie.Need-is-permitted-requires
-is-permitted-requires c κs = search needs
-
 returns : tie.Need-returns
 unfolding measuredOf
 returns c = simp (sym (c .before .is-permitted .ensures) ∙ not-true _ (c .if1 .taken))
@@ -35,5 +32,4 @@ returns-4 c = simp (sym (c .before .before .before .is-permitted .ensures) ∙ n
 
 pub measured-spec : {M : Type 1} → statement M
 measured-spec =
-    tie.close
-    (tie.spec is-permitted-requires returns add-if2 returns-2 add-if3 returns-3 returns-4)
+    tie.close (tie.spec (λ c κs. search needs) returns add-if2 returns-2 add-if3 returns-3 returns-4)

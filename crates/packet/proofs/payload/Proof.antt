@@ -8,32 +8,11 @@ use lib.Seq.{length-take-le}
 use mathlib.Core.Path.{sym, _∙_}
 use native.Mathlib.Omega.{arith}
 
-sub-result : tie.Need-sub-result
-sub-result c = search needs
-
-part-result-start : tie.Need-part-result-start
-part-result-start c = search needs
-
-part-result-end : tie.Need-part-result-end
-part-result-end c = search needs
-
 returns : tie.Need-returns
 returns c = payload-short (c .before .before .before .args .receive .now) (c .before .before .before .args .count) (c .before .if1 .taken)
 
 slice-aggregate-is-good : tie.Need-slice-aggregate-is-good
 slice-aggregate-is-good c = sym (length-take-le (c .before .before .before .args .count) (c .before .before .before .args .receive .now) (c .before .if1 .left))
-
-is-good-requires : tie.Need-is-good-requires
-is-good-requires c κs = search needs
-
-sub-result-2 : tie.Need-sub-result-2
-sub-result-2 c = search needs
-
-part-result-start-2 : tie.Need-part-result-start-2
-part-result-start-2 c = search needs
-
-part-result-end-2 : tie.Need-part-result-end-2
-part-result-end-2 c = search needs
 
 returns-2 : tie.Need-returns-2
 returns-2 c = payload-none (c .before .before .before .before .before .before .args .receive .now) (c .before .before .before .before .before .before .args .count) (c .before .before .before .before .if1 .left) (sym (c .before .before .is-good .ensures) ∙ not-true _ (c .before .if2 .taken))
@@ -47,28 +26,11 @@ sub-result-3 c = omega (arith, payload-room (c .before .before .before .before .
 part-result-start-3 : tie.Need-part-result-start-3
 part-result-start-3 c = omega (arith, payload-room (c .before .before .before .before .before .args .receive .now) (c .before .before .before .before .before .args .count) (c .before .before .before .if1 .left) (sym (c .before .is-good .ensures) ∙ not-false _ (c .if2 .left)))
 
-part-result-end-3 : tie.Need-part-result-end-3
-part-result-end-3 c = search needs
-
 returns-3 : tie.Need-returns-3
 returns-3 c = payload-part (c .before .before .before .before .before .before .args .receive .now) (c .before .before .before .before .before .before .args .count) (c .before .before .before .before .if1 .left) (sym (c .before .before .is-good .ensures) ∙ not-false _ (c .before .if2 .left))
 
 pub payload-spec : {M : Type 1} → statement M
 payload-spec =
-    tie.close
-    (tie.spec
-    sub-result
-    part-result-start
-    part-result-end
-    returns
-    slice-aggregate-is-good
-    is-good-requires
-    sub-result-2
-    part-result-start-2
-    part-result-end-2
-    returns-2
-    sub-end
-    sub-result-3
-    part-result-start-3
-    part-result-end-3
-    returns-3)
+    tie.close (tie.spec (λ c. search needs) (λ c. search needs) (λ c. search needs) returns
+    slice-aggregate-is-good (λ c κs. search needs) (λ c. search needs) (λ c. search needs) (λ c. search needs)
+    returns-2 sub-end sub-result-3 part-result-start-3 (λ c. search needs) returns-3)

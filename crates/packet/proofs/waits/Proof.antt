@@ -5,24 +5,6 @@ use borrow.Author.Needs.{needs}
 use Rattle.packet.proofs.waits.Statement.{statement}
 use Rattle.packet.proofs.waits.Tie as tie
 
-gathered-requires : tie.Need-gathered-requires
-gathered-requires c κs = search needs
-
-enum-told : tie.Need-enum-told
-enum-told c = search needs
-
-enum-told-2 : tie.Need-enum-told-2
-enum-told-2 c = search needs
-
-enum-told-3 : tie.Need-enum-told-3
-enum-told-3 c = search needs
-
-enum-told-4 : tie.Need-enum-told-4
-enum-told-4 c = search needs
-
-enum-told-5 : tie.Need-enum-told-5
-enum-told-5 c = search needs
-
 returns : tie.Need-returns
 returns c = ap isPartial (sym (c .enum-told .given .1) ∙ c .before .before .gathered .ensures)
 
@@ -40,16 +22,5 @@ returns-5 c = ap isPartial (sym (c .enum-told5 .given .1) ∙ c .before .before 
 
 pub waits-spec : {M : Type 1} → statement M
 waits-spec =
-    tie.close
-    (tie.spec
-    gathered-requires
-    enum-told
-    enum-told-2
-    enum-told-3
-    enum-told-4
-    enum-told-5
-    returns
-    returns-2
-    returns-3
-    returns-4
-    returns-5)
+    tie.close (tie.spec (λ c κs. search needs) (λ c. search needs) (λ c. search needs) (λ c. search needs)
+    (λ c. search needs) (λ c. search needs) returns returns-2 returns-3 returns-4 returns-5)

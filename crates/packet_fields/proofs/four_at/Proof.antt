@@ -5,15 +5,6 @@ use Rattle.packet_fields.specs.Fields.{valueOf, fourAt}
 use Rattle.packet_fields.proofs.four_at.Statement.{statement}
 use Rattle.packet_fields.proofs.four_at.Tie as tie
 
-read-four-requires : tie.Need-read-four-requires
-read-four-requires c κs = search needs
-
-enum-known-number : tie.Need-enum-known-number
-enum-known-number c = search needs
-
-enum-told : tie.Need-enum-told
-enum-told c = search needs
-
 returns : tie.Need-returns
 unfolding fourAt
 returns c = ap valueOf (sym (c .before .number .given .1) ∙ c .before .before .before .read-four .ensures)
@@ -24,4 +15,4 @@ returns-2 c = ap valueOf (sym (c .enum-told .given .1) ∙ c .before .before .re
 
 pub four-at-spec : {M : Type 1} → statement M
 four-at-spec =
-    tie.close (tie.spec read-four-requires enum-known-number enum-told returns returns-2)
+    tie.close (tie.spec (λ c κs. search needs) (λ c. search needs) (λ c. search needs) returns returns-2)

@@ -6,24 +6,6 @@ use borrow.Author.Needs.{needs}
 use Rattle.packet_gather.proofs.lacking.Statement.{statement}
 use Rattle.packet_gather.proofs.lacking.Tie as tie
 
-read-two-requires : tie.Need-read-two-requires
-read-two-requires c κs = search needs
-
-enum-told : tie.Need-enum-told
-enum-told c = search needs
-
-enum-known-length : tie.Need-enum-known-length
-enum-known-length c = search needs
-
-cast-last : tie.Need-cast-last
-cast-last c = search needs
-
-add-last : tie.Need-add-last
-add-last c = search needs
-
-sub-result : tie.Need-sub-result
-sub-result c = search needs
-
 returns : tie.Need-returns
 returns c = lack-read (c .before .before .before .before .before .before .args .packet .now) _ (sym (c .before .before .before .before .read-two .ensures) ∙ c .before .before .length .given .1)
 
@@ -35,14 +17,5 @@ returns-3 c = omega (arith, lack-read (c .before .before .before .before .before
 
 pub lacking-spec : {M : Type 1} → statement M
 lacking-spec =
-    tie.close
-    (tie.spec
-    read-two-requires
-    enum-told
-    enum-known-length
-    cast-last
-    add-last
-    sub-result
-    returns
-    returns-2
-    returns-3)
+    tie.close (tie.spec (λ c κs. search needs) (λ c. search needs) (λ c. search needs) (λ c. search needs)
+    (λ c. search needs) (λ c. search needs) returns returns-2 returns-3)

@@ -16,17 +16,11 @@ returns c = open-few (c .before .before .args .kind) (c .before .before .args .i
 slice-aggregate-waits : tie.Need-slice-aggregate-waits
 slice-aggregate-waits c = sym (length-take-le 3 (c .before .before .before .args .input .now) (c .before .if1 .left))
 
-waits-requires : tie.Need-waits-requires
-waits-requires c κs = search needs
-
 returns-2 : tie.Need-returns-2
 returns-2 c = open-none (c .before .before .before .before .before .args .kind) (c .before .before .before .before .before .args .input .now) (c .before .before .before .if1 .left) (sym (c .before .waits .ensures) ∙ not-true _ (c .if2 .taken))
 
 slice-aggregate-lacking : tie.Need-slice-aggregate-lacking
 slice-aggregate-lacking c = sym (length-take-le 3 (c .before .before .before .before .before .before .args .input .now) (c .before .before .before .before .if1 .left))
-
-lacking-requires : tie.Need-lacking-requires
-lacking-requires c κs = search needs
 
 add-result : tie.Need-add-result
 add-result c = omega (arith, c .lacking .ensures, lack-few (c .before .before .before .before .before .before .before .args .kind) (take 3 (c .before .before .before .before .before .before .before .args .input .now)) (sym (c .before .before .before .waits .ensures) ∙ not-false _ (c .before .before .if2 .left)))
@@ -36,13 +30,5 @@ returns-3 c = ap (λ (k : ℕ). k + 3) (c .lacking .ensures) ∙ open-some (c .b
 
 pub opening-spec : {M : Type 1} → statement M
 opening-spec =
-    tie.close
-    (tie.spec
-    returns
-    slice-aggregate-waits
-    waits-requires
-    returns-2
-    slice-aggregate-lacking
-    lacking-requires
-    add-result
-    returns-3)
+    tie.close (tie.spec returns slice-aggregate-waits (λ c κs. search needs) returns-2 slice-aggregate-lacking
+    (λ c κs. search needs) add-result returns-3)

@@ -7,40 +7,16 @@ use borrow.Author.Needs.{needs}
 use Rattle.packet_gather.proofs.place.Statement.{statement}
 use Rattle.packet_gather.proofs.place.Tie as tie
 
-shared-slice-read-receive : tie.Need-shared-slice-read-receive
-shared-slice-read-receive c = search needs
-
-slice-write-receive : tie.Need-slice-write-receive
-slice-write-receive c = search needs
-
-same-length : tie.Need-same-length
-same-length c = search needs
-
 returns : tie.Need-returns
 returns c = let a = c .before .before .before .before .args in placed-one (a .receive .now) (a .from .now) (a .at) (a .count) (c .before .if1 .taken) (c .before .before .before .before .pre .0) (c .before .before .before .before .pre .1)
 
-add-end : tie.Need-add-end
-add-end c = search needs
-
 slice-aggregate-copy : tie.Need-slice-aggregate-copy
 slice-aggregate-copy c = let a = c .before .before .before .before .args in sym (length-take-le (a .count) (a .from .now) (c .before .before .before .before .pre .1))
-
-sub-copy : tie.Need-sub-copy
-sub-copy c = search needs
-
-part-copy-start : tie.Need-part-copy-start
-part-copy-start c = search needs
-
-part-copy-end : tie.Need-part-copy-end
-part-copy-end c = search needs
 
 copy-requires : tie.Need-copy-requires
 copy-requires c κs = let a = c .before .before .before .before .before .args in
     let e = as-many (a .receive .now) (a .from .now) (a .at) (a .count) (c .before .before .before .before .before .pre .0) (c .before .before .before .before .before .pre .1) in
     omega (arith, e)
-
-same-length-2 : tie.Need-same-length-2
-same-length-2 c = search needs
 
 returns-2 : tie.Need-returns-2
 returns-2 c = let a = c .before .before .before .before .before .before .before .before .args in
@@ -48,17 +24,6 @@ returns-2 c = let a = c .before .before .before .before .before .before .before 
 
 pub place-spec : {M : Type 1} → statement M
 place-spec =
-    tie.close
-    (tie.spec
-    shared-slice-read-receive
-    slice-write-receive
-    same-length
-    returns
-    add-end
-    slice-aggregate-copy
-    sub-copy
-    part-copy-start
-    part-copy-end
-    copy-requires
-    same-length-2
-    returns-2)
+    tie.close (tie.spec (λ c. search needs) (λ c. search needs) (λ c. search needs) returns (λ c. search needs)
+    slice-aggregate-copy (λ c. search needs) (λ c. search needs) (λ c. search needs) copy-requires
+    (λ c. search needs) returns-2)

@@ -5,18 +5,6 @@ use borrow.Author.Needs.{needs}
 use Rattle.packet_reply.proofs.res.Statement.{statement}
 use Rattle.packet_reply.proofs.res.Tie as tie
 
-enum-told : tie.Need-enum-told
-enum-told c = search needs
-
-enum-told-2 : tie.Need-enum-told-2
-enum-told-2 c = search needs
-
-add-result : tie.Need-add-result
-add-result c = search needs
-
-returns : tie.Need-returns
-returns c = search needs
-
 returns-2 : tie.Need-returns-2
 returns-2 c = rw (c .before .enum-told2 .given .1, lt-ltb _ _ (c .if1 .taken)) refl
 
@@ -24,4 +12,6 @@ returns-3 : tie.Need-returns-3
 returns-3 c = rw (c .before .enum-told2 .given .1, le-ltb _ _ (c .if1 .left)) refl
 
 pub res-spec : {M : Type 1} → statement M
-res-spec = tie.close (tie.spec enum-told enum-told-2 add-result returns returns-2 returns-3)
+res-spec =
+    tie.close (tie.spec (λ c. search needs) (λ c. search needs) (λ c. search needs) (λ c. search needs)
+    returns-2 returns-3)

@@ -15,36 +15,15 @@ Inv-loop address profile n base₀ i₀ base i = (n ≡ min (profile .noa) 8) ×
 abbrev μ-loop : tie.MeasureT-loop
 μ-loop address profile n base₀ i₀ base i = n - i
 
-used-requires : tie.Need-used-requires Inv-loop μ-loop
-used-requires c κs = search needs
-
 loop-holds : tie.Need-loop-holds Inv-loop μ-loop
 loop-holds c = (c .used .ensures .0, omega arith, c .used .ensures .1, ap (λ l. placeFrom 0 l (c .before .args .address)) (sym (entries-start (c .before .args .t1) (c .used .result) (c .used .ensures .0))), omega arith)
-
-mul-area : tie.Need-mul-area Inv-loop μ-loop
-mul-area c = search needs
-
-element-copy-out-area : tie.Need-element-copy-out-area Inv-loop μ-loop
-element-copy-out-area c = search needs
-
-holds-requires : tie.Need-holds-requires Inv-loop μ-loop
-holds-requires c κs = search needs
 
 returns : tie.Need-returns Inv-loop μ-loop
 returns c = let t = sym (c .before .holds .ensures) ∙ c .if1 .taken in let b = inside-bounds _ _ t in
     record { is = sym (c .before .before .before .before .loop .inv .3 ∙ place-here (c .before .before .before .before .before .before .args .t1 .areas) (c .before .before .before .before .before .before .args .address) (c .before .before .before .before .loop .base) (c .before .before .before .before .loop .i) (c .before .before .before .before .before .used .result) (c .before .before .before .loop-test .taken) t); bounds = (b .0, b .1, omega arith) }
 
-size-requires : tie.Need-size-requires Inv-loop μ-loop
-size-requires c κs = search needs
-
 add-base : tie.Need-add-base Inv-loop μ-loop
 add-base c = omega (arith, c .size .ensures .1)
-
-add-i : tie.Need-add-i Inv-loop μ-loop
-add-i c = search needs
-
-loop-less : tie.Need-loop-less Inv-loop μ-loop
-loop-less c = search needs
 
 loop-again : tie.Need-loop-again Inv-loop μ-loop
 loop-again c = (c .before .before .before .before .before .loop .inv .0, search needs, c .before .before .before .before .before .loop .inv .2, c .before .before .before .before .before .loop .inv .3 ∙ place-later (c .before .before .before .before .before .before .before .args .t1 .areas) (c .before .before .before .before .before .before .before .args .address) (c .before .before .before .before .before .loop .base) (c .before .before .before .before .before .loop .i) (c .before .before .before .before .before .before .used .result) (c .before .before .before .before .loop-test .taken) (sym (c .before .before .holds .ensures) ∙ c .before .if1 .left) ∙ ap (λ k. placeFrom (c .before .before .before .before .before .loop .base + k) (entries (c .before .before .before .before .before .loop .i + 1) (c .before .before .before .before .before .before .used .result - (c .before .before .before .before .before .loop .i + 1)) (c .before .before .before .before .before .before .before .args .t1 .areas)) (c .before .before .before .before .before .before .before .args .address)) (sym (c .size .ensures .0)), omega (arith, c .size .ensures .1))
@@ -54,19 +33,6 @@ returns-2 c = record { is = sym (c .before .loop .inv .3 ∙ place-end (c .befor
 
 pub locate-spec : {M : Type 1} → statement M
 locate-spec =
-    tie.close
-    (tie.spec
-    Inv-loop
-    μ-loop
-    used-requires
-    loop-holds
-    mul-area
-    element-copy-out-area
-    holds-requires
-    returns
-    size-requires
-    add-base
-    add-i
-    loop-less
-    loop-again
-    returns-2)
+    tie.close (tie.spec Inv-loop μ-loop (λ c κs. search needs) loop-holds (λ c. search needs)
+    (λ c. search needs) (λ c κs. search needs) returns (λ c κs. search needs) add-base (λ c. search needs)
+    (λ c. search needs) loop-again returns-2)

@@ -7,17 +7,8 @@ use borrow.Author.Needs.{needs}
 use Rattle.profile_bytes.proofs.two_at.Statement.{statement}
 use Rattle.profile_bytes.proofs.two_at.Tie as tie
 
-read-two-requires : tie.Need-read-two-requires
-read-two-requires c κs = search needs
-
-enum-known-number : tie.Need-enum-known-number
-enum-known-number c = search needs
-
 cast-result : tie.Need-cast-result
 cast-result c = omega (arith, two-small (c .before .before .before .before .before .args .bytes .now) (c .before .before .before .before .before .args .at) _ (λ i. omega (arith, c .before .before .before .before .shared-slice-known .given i)) (sym (c .before .number .given .1) ∙ c .before .before .before .read-two .ensures))
-
-enum-told : tie.Need-enum-told
-enum-told c = search needs
 
 returns : tie.Need-returns
 unfolding twoAt
@@ -29,5 +20,5 @@ returns-2 c = ap valueOf (sym (c .enum-told .given .1) ∙ c .before .before .re
 
 pub two-at-spec : {M : Type 1} → statement M
 two-at-spec =
-    tie.close
-    (tie.spec read-two-requires enum-known-number cast-result enum-told returns returns-2)
+    tie.close (tie.spec (λ c κs. search needs) (λ c. search needs) cast-result (λ c. search needs) returns
+    returns-2)

@@ -6,18 +6,6 @@ use borrow.Author.Needs.{needs}
 use Rattle.profile_ranges.proofs.check_change.Statement.{statement}
 use Rattle.profile_ranges.proofs.check_change.Tie as tie
 
-check-units-requires : tie.Need-check-units-requires
-check-units-requires c κs = search needs
-
-enum-known-units : tie.Need-enum-known-units
-enum-known-units c = search needs
-
-enum-told : tie.Need-enum-told
-enum-told c = search needs
-
-check-window-requires : tie.Need-check-window-requires
-check-window-requires c κs = search needs
-
 returns : tie.Need-returns
 unfolding changeChecks
 returns c =
@@ -37,11 +25,5 @@ returns-2 c =
 
 pub check-change-spec : {M : Type 1} → statement M
 check-change-spec =
-    tie.close
-    (tie.spec
-    check-units-requires
-    enum-known-units
-    enum-told
-    check-window-requires
-    returns
-    returns-2)
+    tie.close (tie.spec (λ c κs. search needs) (λ c. search needs) (λ c. search needs) (λ c κs. search needs)
+    returns returns-2)

@@ -8,24 +8,9 @@ use borrow.Author.Needs.{needs}
 use Rattle.profile_ranges.proofs.check_end.Statement.{statement}
 use Rattle.profile_ranges.proofs.check_end.Tie as tie
 
-holds-requires : tie.Need-holds-requires
-holds-requires c κs = search needs
-
-check-purpose-requires : tie.Need-check-purpose-requires
-check-purpose-requires c κs = search needs
-
 returns : tie.Need-returns
 returns c = let a = c .before .before .before .args in
     verdict-held (areasOf (a .profile)) (a .area) (a .window) (a .purpose) (a .sad) (a .ead) (c .before .before .before .pre) (sym (c .before .before .holds .ensures) ∙ c .before .if1 .taken) _ (c .check-purpose .ensures)
-
-locate-requires : tie.Need-locate-requires
-locate-requires c κs = search needs
-
-enum-told : tie.Need-enum-told
-enum-told c = search needs
-
-enum-told-2 : tie.Need-enum-told-2
-enum-told-2 c = search needs
 
 returns-2 : tie.Need-returns-2
 unfolding endChecks firstFault
@@ -37,13 +22,5 @@ returns-3 c = simp (sym (c .before .before .locate .ensures .is) ∙ c .enum-tol
 
 pub check-end-spec : {M : Type 1} → statement M
 check-end-spec =
-    tie.close
-    (tie.spec
-    holds-requires
-    check-purpose-requires
-    returns
-    locate-requires
-    enum-told
-    enum-told-2
-    returns-2
-    returns-3)
+    tie.close (tie.spec (λ c κs. search needs) (λ c κs. search needs) returns (λ c κs. search needs)
+    (λ c. search needs) (λ c. search needs) returns-2 returns-3)

@@ -5,21 +5,6 @@ use borrow.Author.Needs.{needs}
 use Rattle.profile_ranges.proofs.check_purpose.Statement.{statement}
 use Rattle.profile_ranges.proofs.check_purpose.Tie as tie
 
-enum-told : tie.Need-enum-told
-enum-told c = search needs
-
-check-change-requires : tie.Need-check-change-requires
-check-change-requires c κs = search needs
-
-enum-told-2 : tie.Need-enum-told-2
-enum-told-2 c = search needs
-
-check-change-requires-2 : tie.Need-check-change-requires-2
-check-change-requires-2 c κs = search needs
-
-enum-told-3 : tie.Need-enum-told-3
-enum-told-3 c = search needs
-
 returns : tie.Need-returns
 unfolding purposeChecks
 returns c = rw (c .before .enum-told .given .1) (c .check-change .ensures)
@@ -34,13 +19,5 @@ returns-3 c = rw (c .enum-told3 .given .1)
 
 pub check-purpose-spec : {M : Type 1} → statement M
 check-purpose-spec =
-    tie.close
-    (tie.spec
-    enum-told
-    check-change-requires
-    enum-told-2
-    check-change-requires-2
-    enum-told-3
-    returns
-    returns-2
-    returns-3)
+    tie.close (tie.spec (λ c. search needs) (λ c κs. search needs) (λ c. search needs) (λ c κs. search needs)
+    (λ c. search needs) returns returns-2 returns-3)

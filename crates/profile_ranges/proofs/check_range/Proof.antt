@@ -11,15 +11,6 @@ returns : tie.Need-returns
 unfolding rangeChecks firstFault
 returns c = simp (lt-ltb _ _ (c .if1 .taken))
 
-locate-requires : tie.Need-locate-requires
-locate-requires c κs = search needs
-
-enum-told : tie.Need-enum-told
-enum-told c = search needs
-
-enum-known-start : tie.Need-enum-known-start
-enum-known-start c = search needs
-
 check-end-requires : tie.Need-check-end-requires
 check-end-requires c κs =
     record {
@@ -37,12 +28,5 @@ returns-3 c = simp (le-ltb _ _ (c .before .before .before .before .before .befor
 
 pub check-range-spec : {M : Type 1} → statement M
 check-range-spec =
-    tie.close
-    (tie.spec
-    returns
-    locate-requires
-    enum-told
-    enum-known-start
-    check-end-requires
-    returns-2
-    returns-3)
+    tie.close (tie.spec returns (λ c κs. search needs) (λ c. search needs) (λ c. search needs)
+    check-end-requires returns-2 returns-3)

@@ -10,18 +10,9 @@ returns : tie.Need-returns
 unfolding firstFault unitChecks
 returns c = simp (eq-eqb _ _ (c .if1 .taken))
 
-rem-if2 : tie.Need-rem-if2
-rem-if2 c = search needs
-
 returns-2 : tie.Need-returns-2
 unfolding firstFault unitChecks
 returns-2 c = simp (ne-eqb _ _ (c .before .if1 .left), ne-eqb _ _ (c .if2 .taken))
-
-add-behind : tie.Need-add-behind
-add-behind c = search needs
-
-rem-if3 : tie.Need-rem-if3
-rem-if3 c = search needs
 
 returns-3 : tie.Need-returns-3
 unfolding firstFault unitChecks
@@ -33,4 +24,5 @@ returns-4 c = simp (ne-eqb _ _ (c .before .before .if1 .left), eq-eqb _ _ (c .be
 
 pub check-units-spec : {M : Type 1} → statement M
 check-units-spec =
-    tie.close (tie.spec returns rem-if2 returns-2 add-behind rem-if3 returns-3 returns-4)
+    tie.close (tie.spec returns (λ c. search needs) returns-2 (λ c. search needs) (λ c. search needs) returns-3
+    returns-4)

@@ -7,21 +7,9 @@ use borrow.Author.Needs.{needs}
 use Rattle.profile_ranges.proofs.within.Statement.{statement}
 use Rattle.profile_ranges.proofs.within.Tie as tie
 
-holds-requires : tie.Need-holds-requires
-holds-requires c κs = search needs
-
 returns : tie.Need-returns
 unfolding withinOf
 returns c = simp (sym (c .before .holds .ensures) ∙ not-true _ (c .if1 .taken))
-
-check-purpose-requires : tie.Need-check-purpose-requires
-check-purpose-requires c κs = search needs
-
-enum-told : tie.Need-enum-told
-enum-told c = search needs
-
-enum-told-2 : tie.Need-enum-told-2
-enum-told-2 c = search needs
 
 returns-2 : tie.Need-returns-2
 returns-2 c = let a = c .before .before .before .before .before .args in
@@ -33,12 +21,5 @@ returns-3 c = let a = c .before .before .before .before .before .args in
 
 pub within-spec : {M : Type 1} → statement M
 within-spec =
-    tie.close
-    (tie.spec
-    holds-requires
-    returns
-    check-purpose-requires
-    enum-told
-    enum-told-2
-    returns-2
-    returns-3)
+    tie.close (tie.spec (λ c κs. search needs) returns (λ c κs. search needs) (λ c. search needs)
+    (λ c. search needs) returns-2 returns-3)

@@ -19,9 +19,6 @@ returns-3 : tie.Need-returns-3
 unfolding firstFault areaChecks
 returns-3 c = simp (le-ltb _ _ (c .before .before .before .before .if1 .left), le-ltb _ _ (c .before .before .if2 .left), le-leb _ _ (c .if3 .taken))
 
-cast-if4 : tie.Need-cast-if4
-cast-if4 c = search needs
-
 returns-4 : tie.Need-returns-4
 unfolding firstFault areaChecks
 returns-4 c =
@@ -31,9 +28,6 @@ returns-4 c =
       lt-leb _ _ (c .before .before .if3 .left),
       lt-ltb _ _ (c .if4 .taken),
     )
-
-unit-fits-requires : tie.Need-unit-fits-requires
-unit-fits-requires c κs = search needs
 
 returns-5 : tie.Need-returns-5
 unfolding firstFault areaChecks
@@ -45,9 +39,6 @@ returns-5 c =
       le-ltb _ _ (c .before .before .if4 .left),
       sym (c .before .unit-fits .ensures) ∙ not-true _ (c .if5 .taken),
     )
-
-unit-fits-requires-2 : tie.Need-unit-fits-requires-2
-unit-fits-requires-2 c κs = search needs
 
 returns-6 : tie.Need-returns-6
 unfolding firstFault areaChecks
@@ -89,16 +80,5 @@ returns-8 c =
 
 pub check-area-spec : {M : Type 1} → statement M
 check-area-spec =
-    tie.close
-    (tie.spec
-    returns
-    returns-2
-    returns-3
-    cast-if4
-    returns-4
-    unit-fits-requires
-    returns-5
-    unit-fits-requires-2
-    returns-6
-    returns-7
-    returns-8)
+    tie.close (tie.spec returns returns-2 returns-3 (λ c. search needs) returns-4 (λ c κs. search needs)
+    returns-5 (λ c κs. search needs) returns-6 returns-7 returns-8)

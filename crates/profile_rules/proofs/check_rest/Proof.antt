@@ -8,24 +8,6 @@ use Rattle.profile_rules.proofs.Laws.{acceptable-none, breaks-some}
 use Rattle.profile_rules.proofs.check_rest.Statement.{statement}
 use Rattle.profile_rules.proofs.check_rest.Tie as tie
 
-survey-requires : tie.Need-survey-requires
-survey-requires c κs = search needs
-
-enum-known-found : tie.Need-enum-known-found
-enum-known-found c = search needs
-
-enum-told : tie.Need-enum-told
-enum-told c = search needs
-
-check-tail-requires : tie.Need-check-tail-requires
-check-tail-requires c κs = search needs
-
-enum-known-tail : tie.Need-enum-known-tail
-enum-known-tail c = search needs
-
-enum-told-2 : tie.Need-enum-told-2
-enum-told-2 c = search needs
-
 returns : tie.Need-returns
 returns c =
     let w = c .before .before .before .before .survey in
@@ -47,14 +29,5 @@ returns-3 c =
 
 pub check-rest-spec : {M : Type 1} → statement M
 check-rest-spec =
-    tie.close
-    (tie.spec
-    survey-requires
-    enum-known-found
-    enum-told
-    check-tail-requires
-    enum-known-tail
-    enum-told-2
-    returns
-    returns-2
-    returns-3)
+    tie.close (tie.spec (λ c κs. search needs) (λ c. search needs) (λ c. search needs) (λ c κs. search needs)
+    (λ c. search needs) (λ c. search needs) returns returns-2 returns-3)

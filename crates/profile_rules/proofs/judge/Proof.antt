@@ -12,18 +12,6 @@ use Rattle.profile_rules.proofs.Laws.{goes-on, stops}
 use Rattle.profile_rules.proofs.judge.Statement.{statement}
 use Rattle.profile_rules.proofs.judge.Tie as tie
 
-check-head-requires : tie.Need-check-head-requires
-check-head-requires c κs = search needs
-
-enum-known-head : tie.Need-enum-known-head
-enum-known-head c = search needs
-
-enum-told : tie.Need-enum-told
-enum-told c = search needs
-
-check-rest-requires : tie.Need-check-rest-requires
-check-rest-requires c κs = search needs
-
 returns : tie.Need-returns
 unfolding judgedOf profileChecks
 returns c =
@@ -39,5 +27,5 @@ returns-2 c =
 
 pub judge-spec : {M : Type 1} → statement M
 judge-spec =
-    tie.close
-    (tie.spec check-head-requires enum-known-head enum-told check-rest-requires returns returns-2)
+    tie.close (tie.spec (λ c κs. search needs) (λ c. search needs) (λ c. search needs) (λ c κs. search needs)
+    returns returns-2)

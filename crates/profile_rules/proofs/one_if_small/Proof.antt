@@ -7,9 +7,6 @@ use Rattle.profile_rules.specs.Rules.{smallConfig}
 use Rattle.profile_rules.proofs.one_if_small.Statement.{statement}
 use Rattle.profile_rules.proofs.one_if_small.Tie as tie
 
-size-requires : tie.Need-size-requires
-size-requires c κs = search needs
-
 returns : tie.Need-returns
 unfolding smallConfig
 returns c = (simp (eq-eqb _ _ (c .before .before .if1 .taken), sym (c .before .size .ensures .0), lt-ltb _ _ (c .if2 .taken)), omega arith)
@@ -23,4 +20,4 @@ unfolding smallConfig
 returns-3 c = (simp (ne-eqb _ _ (c .if1 .left)), omega arith)
 
 pub one-if-small-spec : {M : Type 1} → statement M
-one-if-small-spec = tie.close (tie.spec size-requires returns returns-2 returns-3)
+one-if-small-spec = tie.close (tie.spec (λ c κs. search needs) returns returns-2 returns-3)

@@ -38,9 +38,6 @@ Inv-loop profile end free₀ configs₀ small₀ total₀ i₀ free configs smal
 abbrev μ-loop : tie.MeasureT-loop
 μ-loop profile end free₀ configs₀ small₀ total₀ i₀ free configs small total i = end - i
 
-used-requires : tie.Need-used-requires Inv-loop μ-loop
-used-requires c κs = search needs
-
 loop-holds : tie.Need-loop-holds Inv-loop μ-loop
 loop-holds c =
     let p = c .before .args .t1 in
@@ -61,21 +58,6 @@ loop-holds c =
       total-bound = omega arith;
     }
 
-mul-area : tie.Need-mul-area Inv-loop μ-loop
-mul-area c = search needs
-
-element-copy-out-area : tie.Need-element-copy-out-area Inv-loop μ-loop
-element-copy-out-area c = search needs
-
-check-area-requires : tie.Need-check-area-requires Inv-loop μ-loop
-check-area-requires c κs = search needs
-
-enum-known-found : tie.Need-enum-known-found Inv-loop μ-loop
-enum-known-found c = search needs
-
-uncounted-requires : tie.Need-uncounted-requires Inv-loop μ-loop
-uncounted-requires c κs = search needs
-
 returns : tie.Need-returns Inv-loop μ-loop
 unfolding surveyOf
 returns c =
@@ -85,38 +67,14 @@ returns c =
     let stopped = l .inv .fault ∙ table-stops (p .areas) (l .i) (c .before .before .before .before .before .before .before .before .used .result) (l .free) _ (c .before .before .before .before .before .before .loop-test .taken) broken in
     c .uncounted .ensures ∙ sym (ap (λ (f : Option Rule). surveyedAs f (talliesOf (areasOf p))) stopped)
 
-enum-told : tie.Need-enum-told Inv-loop μ-loop
-enum-told c = search needs
-
-cast-free : tie.Need-cast-free Inv-loop μ-loop
-cast-free c = search needs
-
-add-free : tie.Need-add-free Inv-loop μ-loop
-add-free c = search needs
-
-one-if-config-requires : tie.Need-one-if-config-requires Inv-loop μ-loop
-one-if-config-requires c κs = search needs
-
 add-configs : tie.Need-add-configs Inv-loop μ-loop
 add-configs c = omega (arith, c .one-if-config .ensures .1)
-
-one-if-small-requires : tie.Need-one-if-small-requires Inv-loop μ-loop
-one-if-small-requires c κs = search needs
 
 add-small : tie.Need-add-small Inv-loop μ-loop
 add-small c = omega (arith, c .one-if-small .ensures .1)
 
-size-requires : tie.Need-size-requires Inv-loop μ-loop
-size-requires c κs = search needs
-
 add-total : tie.Need-add-total Inv-loop μ-loop
 add-total c = omega (arith, c .size .ensures .1)
-
-add-i : tie.Need-add-i Inv-loop μ-loop
-add-i c = search needs
-
-loop-less : tie.Need-loop-less Inv-loop μ-loop
-loop-less c = search needs
 
 loop-again : tie.Need-loop-again Inv-loop μ-loop
 loop-again c =
@@ -155,28 +113,8 @@ returns-2 c =
 
 pub survey-spec : {M : Type 1} → statement M
 survey-spec =
-    tie.close
-    (tie.spec
-    Inv-loop
-    μ-loop
-    used-requires
-    loop-holds
-    mul-area
-    element-copy-out-area
-    check-area-requires
-    enum-known-found
-    uncounted-requires
-    returns
-    enum-told
-    cast-free
-    add-free
-    one-if-config-requires
-    add-configs
-    one-if-small-requires
-    add-small
-    size-requires
-    add-total
-    add-i
-    loop-less
-    loop-again
-    returns-2)
+    tie.close (tie.spec Inv-loop μ-loop (λ c κs. search needs) loop-holds (λ c. search needs)
+    (λ c. search needs) (λ c κs. search needs) (λ c. search needs) (λ c κs. search needs) returns
+    (λ c. search needs) (λ c. search needs) (λ c. search needs) (λ c κs. search needs) add-configs
+    (λ c κs. search needs) add-small (λ c κs. search needs) add-total (λ c. search needs) (λ c. search needs)
+    loop-again returns-2)

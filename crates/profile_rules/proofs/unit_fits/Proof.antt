@@ -10,22 +10,15 @@ returns : tie.Need-returns
 unfolding unitFits
 returns c = simp (eq-eqb _ _ (c .if1 .taken))
 
-rem-if2 : tie.Need-rem-if2
-rem-if2 c = search needs
-
 returns-2 : tie.Need-returns-2
 unfolding unitFits
 returns-2 c = simp (ne-eqb _ _ (c .before .before .if1 .left), ne-eqb _ _ (c .if2 .taken))
-
-size-requires : tie.Need-size-requires
-size-requires c κs = search needs
-
-rem-result : tie.Need-rem-result
-rem-result c = search needs
 
 returns-3 : tie.Need-returns-3
 unfolding unitFits
 returns-3 c = simp (ne-eqb _ _ (c .before .before .before .if1 .left), eq-eqb _ _ (c .before .if2 .left), sym (c .size .ensures .0))
 
 pub unit-fits-spec : {M : Type 1} → statement M
-unit-fits-spec = tie.close (tie.spec returns rem-if2 returns-2 size-requires rem-result returns-3)
+unit-fits-spec =
+    tie.close (tie.spec returns (λ c. search needs) returns-2 (λ c κs. search needs) (λ c. search needs)
+    returns-3)

@@ -1,4 +1,5 @@
 -- `record_driver::run` meets its contract. The loop keeps that all records give what the rest gives from the machine reached. Assumes nothing.
+use Rattle.device_calls.specs.Calls.{buffers}
 use Rattle.record_driver.proofs.Playing.{Playing, playing-none, inside, played-all, farther, playing-on}
 use native.Mathlib.Omega.{arith}
 use borrow.Author.Needs.{needs}
@@ -8,19 +9,13 @@ use Rattle.record_driver.proofs.run.Statement.{statement}
 use Rattle.record_driver.proofs.run.Tie as tie
 
 abbrev Inv-loop : tie.InvT-loop
-Inv-loop profile image₀ receive₀ reply₀ script st₀ at₀ image receive reply st at = Playing profile image₀ receive₀ reply₀ script st₀ image receive reply st at
+Inv-loop profile image₀ receive₀ reply₀ script st₀ at₀ image receive reply st at = Playing profile (buffers image₀ receive₀ reply₀) script st₀ (buffers image receive reply) st at
 
 abbrev μ-loop : tie.MeasureT-loop
 μ-loop profile image₀ receive₀ reply₀ script st₀ at₀ image receive reply st at = length script - at
 
 loop-holds : tie.Need-loop-holds Inv-loop μ-loop
-loop-holds c = let a = c .before .before .before .before .args in playing-none (a .profile) (a .image .now) (a .receive .now) (a .reply .now) (a .script .now) (a .state) (c .before .before .before .before .pre)
-
-record-at-requires : tie.Need-record-at-requires Inv-loop μ-loop
-record-at-requires c κs = search needs
-
-behind-requires : tie.Need-behind-requires Inv-loop μ-loop
-behind-requires c κs = search needs
+loop-holds c = playing-none (c .before .before .before .before .pre)
 
 same-length : tie.Need-same-length Inv-loop μ-loop
 same-length c = c .before .before .before .loop .inv .image
@@ -32,31 +27,18 @@ same-length-3 : tie.Need-same-length-3 Inv-loop μ-loop
 same-length-3 c = c .before .before .before .loop .inv .reply
 
 returns : tie.Need-returns Inv-loop μ-loop
-returns c = played-all (c .before .before .before .loop .inv) (c .before .before .record-at .result) (c .before .behind .result) (c .before .before .record-at .ensures) (c .before .behind .ensures) (c .if1 .taken)
+returns c = played-all (c .before .before .before .loop .inv) (c .before .before .record-at .ensures) (c .before .behind .ensures) (c .if1 .taken)
 
 call-requires : tie.Need-call-requires Inv-loop μ-loop
-call-requires c κs = (c .before .before .before .before .before .before .loop .inv .ready, inside (c .before .before .before .before .before .before .loop .inv) (c .before .before .before .before .before .record-at .result) (c .before .before .before .before .behind .result) (c .before .before .before .before .before .record-at .ensures) (c .before .before .before .before .behind .ensures))
+call-requires c κs = (c .before .before .before .before .before .before .loop .inv .ready, inside _ _ (c .before .before .before .before .before .record-at .ensures))
 
 loop-less : tie.Need-loop-less Inv-loop μ-loop
-loop-less c = omega (arith, farther (c .before .before .before .before .before .before .before .before .before .before .before .before .before .loop .inv) (c .before .before .before .before .before .before .before .before .before .before .before .before .record-at .result) (c .before .before .before .before .before .before .before .before .before .before .before .behind .result) (c .before .before .before .before .before .before .before .before .before .before .before .before .record-at .ensures) (c .before .before .before .before .before .before .before .before .before .before .before .behind .ensures) (c .before .before .before .before .before .before .before .before .before .before .if1 .left))
+loop-less c = omega (arith, farther (c .before .before .before .before .before .before .before .before .before .before .before .before .before .loop .inv) (c .before .before .before .before .before .before .before .before .before .before .before .before .record-at .ensures) (c .before .before .before .before .before .before .before .before .before .before .before .behind .ensures) (c .before .before .before .before .before .before .before .before .before .before .if1 .left))
 
 loop-again : tie.Need-loop-again Inv-loop μ-loop
-loop-again c = let f = c .before .before .before .before .before .before .call in
-    playing-on (c .before .before .before .before .before .before .before .before .before .before .before .before .before .loop .inv) (c .before .before .before .before .before .before .before .before .before .before .before .before .record-at .result) (c .before .before .before .before .before .before .before .before .before .before .before .behind .result) (c .before .before .before .before .before .before .before .before .before .before .before .before .record-at .ensures) (c .before .before .before .before .before .before .before .before .before .before .before .behind .ensures) (c .before .before .before .before .before .before .before .before .before .before .if1 .left) (f .result) (f .last .1 .0) (f .last .1 .1 .1 .0) (f .last .1 .1 .1 .1 .0) (f .ensures) (f .kept .1 .0) (f .kept .1 .1 .1 .0) (f .kept .1 .1 .1 .1 .0)
+loop-again c = playing-on (c .before .before .before .before .before .before .before .before .before .before .before .before .before .loop .inv) (c .before .before .before .before .before .before .before .before .before .before .before .before .record-at .ensures) (c .before .before .before .before .before .before .before .before .before .before .before .behind .ensures) (c .before .before .before .before .before .before .before .before .before .before .if1 .left) (c .before .before .before .before .before .before .call .ensures) (c .before .before .before .before .before .before .call .kept .1 .0) (c .before .before .before .before .before .before .call .kept .1 .1 .1 .0) (c .before .before .before .before .before .before .call .kept .1 .1 .1 .1 .0)
 
 pub run-spec : {M : Type 1} → statement M
 run-spec =
-    tie.close
-    (tie.spec
-    Inv-loop
-    μ-loop
-    loop-holds
-    record-at-requires
-    behind-requires
-    same-length
-    same-length-2
-    same-length-3
-    returns
-    call-requires
-    loop-less
-    loop-again)
+    tie.close (tie.spec Inv-loop μ-loop loop-holds (λ c κs. search needs) (λ c κs. search needs) same-length
+    same-length-2 same-length-3 returns call-requires loop-less loop-again)

@@ -5,33 +5,12 @@ use borrow.Author.Needs.{needs}
 use Rattle.record_replay.proofs.advance.Statement.{statement}
 use Rattle.record_replay.proofs.advance.Tie as tie
 
-enum-known-found : tie.Need-enum-known-found
-enum-known-found c = search needs
-
-enum-known-found-2 : tie.Need-enum-known-found-2
-enum-known-found-2 c = search needs
-
 answered-requires : tie.Need-answered-requires
 answered-requires c κs = (c .before .before .before .before .before .before .pre .0, sym (c .before .before .before .before .before .before .pre .1) ∙ c .before .before .found2 .given .1)
-
-enum-known-found-3 : tie.Need-enum-known-found-3
-enum-known-found-3 c = search needs
-
-enum-told : tie.Need-enum-told
-enum-told c = search needs
-
-enum-told-2 : tie.Need-enum-told-2
-enum-told-2 c = search needs
 
 returns : tie.Need-returns
 returns c = let a = c .before .before .before .before .before .args in
     host-next (a .profile) (a .recording .now) (a .image .now) (a .head) (c .before .before .before .before .before .pre .0) (c .before .found .given .0 .0) (sym (c .before .before .before .before .before .pre .1) ∙ c .before .found .given .1)
-
-same-length : tie.Need-same-length
-same-length c = search needs
-
-returns-2 : tie.Need-returns-2
-returns-2 c = search needs
 
 returns-3 : tie.Need-returns-3
 returns-3 c = let a = c .before .before .before .before .before .args in
@@ -45,17 +24,6 @@ returns-5 c = absurd (no-record _ _ (c .enum-told2 .given .1) (c .before .before
 
 pub advance-spec : {M : Type 1} → statement M
 advance-spec =
-    tie.close
-    (tie.spec
-    enum-known-found
-    enum-known-found-2
-    answered-requires
-    enum-known-found-3
-    enum-told
-    enum-told-2
-    returns
-    same-length
-    returns-2
-    returns-3
-    returns-4
+    tie.close (tie.spec (λ c. search needs) (λ c. search needs) answered-requires (λ c. search needs)
+    (λ c. search needs) (λ c. search needs) returns (λ c. search needs) (λ c. search needs) returns-3 returns-4
     returns-5)

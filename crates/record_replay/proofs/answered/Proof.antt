@@ -7,12 +7,6 @@ use borrow.Author.Needs.{needs}
 use Rattle.record_replay.proofs.answered.Statement.{statement}
 use Rattle.record_replay.proofs.answered.Tie as tie
 
-enum-told : tie.Need-enum-told
-enum-told c = search needs
-
-enum-known-waiting : tie.Need-enum-known-waiting
-enum-known-waiting c = search needs
-
 sub-replay-exchange : tie.Need-sub-replay-exchange
 sub-replay-exchange c = omega (arith, waited (c .before .before .before .before .before .before .pre .0) (c .before .before .waiting .given .1), found-device _ _ _ (c .before .before .before .before .before .before .pre .1))
 
@@ -40,9 +34,6 @@ returns : tie.Need-returns
 returns c = let a = c .before .before .before .before .args in
     device-alone (a .profile) (a .recording .now) (a .image .now) (a .head) (c .before .before .before .before .pre .0) (a .part) (c .before .before .before .before .pre .1) (c .enum-told .given .1)
 
-same-length : tie.Need-same-length
-same-length c = search needs
-
 returns-2 : tie.Need-returns-2
 returns-2 c = let a = c .before .before .before .before .before .before .before .before .before .before .before .args in
     let w = c .before .before .before .before .before .before .before .waiting .given in
@@ -51,17 +42,6 @@ returns-2 c = let a = c .before .before .before .before .before .before .before 
 
 pub answered-spec : {M : Type 1} → statement M
 answered-spec =
-    tie.close
-    (tie.spec
-    enum-told
-    enum-known-waiting
-    sub-replay-exchange
-    part-replay-exchange-start
-    part-replay-exchange-end
-    sub-replay-exchange-2
-    part-replay-exchange-start-2
-    part-replay-exchange-end-2
-    replay-exchange-requires
-    returns
-    same-length
-    returns-2)
+    tie.close (tie.spec (λ c. search needs) (λ c. search needs) sub-replay-exchange part-replay-exchange-start
+    part-replay-exchange-end sub-replay-exchange-2 part-replay-exchange-start-2 part-replay-exchange-end-2
+    replay-exchange-requires returns (λ c. search needs) returns-2)

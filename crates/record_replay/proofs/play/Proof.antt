@@ -18,12 +18,6 @@ abbrev μ-loop : tie.MeasureT-loop
 loop-holds : tie.Need-loop-holds Inv-loop μ-loop
 loop-holds c = plays-start (c .before .before .args .profile) (c .before .before .args .recording .now) (c .before .before .args .image .now)
 
-record-at-requires : tie.Need-record-at-requires Inv-loop μ-loop
-record-at-requires c κs = search needs
-
-is-record-requires : tie.Need-is-record-requires Inv-loop μ-loop
-is-record-requires c κs = search needs
-
 same-length : tie.Need-same-length Inv-loop μ-loop
 same-length c = c .before .before .before .before .before .loop .inv .kept
 
@@ -47,17 +41,5 @@ returns-2 c = plays-end _ _ _ _ _ (c .before .before .loop .inv) (c .if1 .left)
 
 pub play-spec : {M : Type 1} → statement M
 play-spec =
-    tie.close
-    (tie.spec
-    Inv-loop
-    μ-loop
-    loop-holds
-    record-at-requires
-    is-record-requires
-    same-length
-    returns
-    advance-requires
-    loop-less
-    loop-again
-    same-length-2
-    returns-2)
+    tie.close (tie.spec Inv-loop μ-loop loop-holds (λ c κs. search needs) (λ c κs. search needs) same-length
+    returns advance-requires loop-less loop-again same-length-2 returns-2)

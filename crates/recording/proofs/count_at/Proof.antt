@@ -5,21 +5,6 @@ use borrow.Author.Needs.{needs}
 use Rattle.recording.proofs.count_at.Statement.{statement}
 use Rattle.recording.proofs.count_at.Tie as tie
 
-add-read-two : tie.Need-add-read-two
-add-read-two c = search needs
-
-read-two-requires : tie.Need-read-two-requires
-read-two-requires c κs = search needs
-
-enum-known-number : tie.Need-enum-known-number
-enum-known-number c = search needs
-
-cast-result : tie.Need-cast-result
-cast-result c = search needs
-
-enum-told : tie.Need-enum-told
-enum-told c = search needs
-
 returns : tie.Need-returns
 returns c = count-is (c .before .before .before .before .before .args .recording .now) (c .before .before .before .before .before .args .at) _ (c .before .before .before .before .before .pre) (sym (c .before .before .before .read-two .ensures) ∙ c .before .number .given .1)
 
@@ -28,12 +13,5 @@ returns-2 c = count-whole (c .before .before .before .before .args .recording .n
 
 pub count-at-spec : {M : Type 1} → statement M
 count-at-spec =
-    tie.close
-    (tie.spec
-    add-read-two
-    read-two-requires
-    enum-known-number
-    cast-result
-    enum-told
-    returns
-    returns-2)
+    tie.close (tie.spec (λ c. search needs) (λ c κs. search needs) (λ c. search needs) (λ c. search needs)
+    (λ c. search needs) returns returns-2)

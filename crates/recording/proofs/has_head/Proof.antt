@@ -11,29 +11,13 @@ returns c = headless (c .before .args .recording .now) (c .before .args .at) (om
 returns-2 : tie.Need-returns-2
 returns-2 c = headless (c .before .before .args .recording .now) (c .before .before .args .at) (omega arith)
 
-shared-slice-read-if3 : tie.Need-shared-slice-read-if3
-shared-slice-read-if3 c = search needs
-
 returns-3 : tie.Need-returns-3
 returns-3 c = unmarked (c .before .before .before .before .args .recording .now) (c .before .before .before .before .args .at) (omega arith) (c .if3 .taken)
-
-add-result : tie.Need-add-result
-add-result c = search needs
-
-shared-slice-read-result : tie.Need-shared-slice-read-result
-shared-slice-read-result c = search needs
 
 returns-4 : tie.Need-returns-4
 returns-4 c = half-marked (c .before .before .before .before .before .args .recording .now) (c .before .before .before .before .before .args .at) (omega arith) (c .before .if3 .left)
 
 pub has-head-spec : {M : Type 1} → statement M
 has-head-spec =
-    tie.close
-    (tie.spec
-    returns
-    returns-2
-    shared-slice-read-if3
-    returns-3
-    add-result
-    shared-slice-read-result
+    tie.close (tie.spec returns returns-2 (λ c. search needs) returns-3 (λ c. search needs) (λ c. search needs)
     returns-4)

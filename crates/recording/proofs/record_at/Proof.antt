@@ -8,9 +8,6 @@ use Rattle.recording.proofs.record_at.Tie as tie
 returns : tie.Need-returns
 returns c = found-end (c .before .before .args .recording .now) (c .before .before .args .at) (c .if1 .taken)
 
-has-head-requires : tie.Need-has-head-requires
-has-head-requires c κs = search needs
-
 returns-2 : tie.Need-returns-2
 returns-2 c = found-headless (c .before .before .before .before .args .recording .now) (c .before .before .before .before .args .at) (c .before .before .if1 .left) _ (c .before .has-head .ensures) (c .if2 .taken)
 
@@ -35,25 +32,10 @@ shared-slice-read-by-direction c = omega (arith, fits (c .before .before .before
 add-t11 : tie.Need-add-t11
 add-t11 c = omega (arith, fits (c .before .before .before .before .before .before .before .args .recording .now) (c .before .before .before .before .before .before .before .args .at) (c .before .before .before .before .before .if1 .left) _ (c .before .before .before .before .has-head .ensures) (c .before .before .before .if2 .left))
 
-by-direction-requires : tie.Need-by-direction-requires
-by-direction-requires c κs = search needs
-
 returns-4 : tie.Need-returns-4
 returns-4 c = found-directed (c .before .before .before .before .before .before .before .before .args .recording .now) (c .before .before .before .before .before .before .before .before .args .at) (c .before .before .before .before .before .before .if1 .left) _ (c .before .before .before .before .before .has-head .ensures) (c .before .before .before .before .if2 .left) _ (c .before .before .before .count-at .ensures) (omega (arith, c .before .before .if3 .left)) _ (c .by-direction .ensures)
 
 pub record-at-spec : {M : Type 1} → statement M
 record-at-spec =
-    tie.close
-    (tie.spec
-    returns
-    has-head-requires
-    returns-2
-    add-from
-    count-at-requires
-    sub-if3
-    returns-3
-    add-by-direction
-    shared-slice-read-by-direction
-    add-t11
-    by-direction-requires
-    returns-4)
+    tie.close (tie.spec returns (λ c κs. search needs) returns-2 add-from count-at-requires sub-if3 returns-3
+    add-by-direction shared-slice-read-by-direction add-t11 (λ c κs. search needs) returns-4)

@@ -11,24 +11,7 @@ Inv-loop before packet after tally₀ n₀ tally n = (n ≤ length packet + 1) �
 abbrev μ-loop : tie.MeasureT-loop
 μ-loop before packet after tally₀ n₀ tally n = length packet + 1 - n
 
-loop-holds : tie.Need-loop-holds Inv-loop μ-loop
-loop-holds c = search needs
-
-cut-requires : tie.Need-cut-requires Inv-loop μ-loop
-cut-requires c κs = search needs
-
-add-n : tie.Need-add-n Inv-loop μ-loop
-add-n c = search needs
-
-loop-less : tie.Need-loop-less Inv-loop μ-loop
-loop-less c = search needs
-
-loop-again : tie.Need-loop-again Inv-loop μ-loop
-loop-again c = search needs
-
-returns : tie.Need-returns Inv-loop μ-loop
-returns c = search needs
-
 pub cuts-spec : {M : Type 1} → statement M
 cuts-spec =
-    tie.close (tie.spec Inv-loop μ-loop loop-holds cut-requires add-n loop-less loop-again returns)
+    tie.close (tie.spec Inv-loop μ-loop (λ c. search needs) (λ c κs. search needs) (λ c. search needs)
+    (λ c. search needs) (λ c. search needs) (λ c. search needs))

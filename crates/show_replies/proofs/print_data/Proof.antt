@@ -5,31 +5,13 @@ use Rattle.show_replies.proofs.Laws.{within, part-length}
 use Rattle.show_replies.proofs.print_data.Statement.{statement}
 use Rattle.show_replies.proofs.print_data.Tie as tie
 
-slice-aggregate-put-data : tie.Need-slice-aggregate-put-data
-slice-aggregate-put-data c = search needs
-
-put-data-requires : tie.Need-put-data-requires
-put-data-requires c κs = search needs
-
 array-share-prefix-buffer : tie.Need-array-share-prefix-buffer
 array-share-prefix-buffer c = within _ _ _ _ (c .before .put-data .kept .0) (c .before .put-data .ensures)
 
 slice-aggregate-print-packet : tie.Need-slice-aggregate-print-packet
 slice-aggregate-print-packet c = sym (part-length _ _ _ _ (c .before .before .put-data .kept .0) (c .before .before .put-data .ensures))
 
-print-packet-requires : tie.Need-print-packet-requires
-print-packet-requires c κs = search needs
-
-returns : tie.Need-returns
-returns c = search needs
-
 pub print-data-spec : {M : Type 1} → statement M
 print-data-spec =
-    tie.close
-    (tie.spec
-    slice-aggregate-put-data
-    put-data-requires
-    array-share-prefix-buffer
-    slice-aggregate-print-packet
-    print-packet-requires
-    returns)
+    tie.close (tie.spec (λ c. search needs) (λ c κs. search needs) array-share-prefix-buffer
+    slice-aggregate-print-packet (λ c κs. search needs) (λ c. search needs))

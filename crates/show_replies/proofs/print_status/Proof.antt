@@ -5,31 +5,13 @@ use Rattle.show_replies.proofs.Laws.{within, part-length}
 use Rattle.show_replies.proofs.print_status.Statement.{statement}
 use Rattle.show_replies.proofs.print_status.Tie as tie
 
-slice-aggregate-put-status : tie.Need-slice-aggregate-put-status
-slice-aggregate-put-status c = search needs
-
-put-status-requires : tie.Need-put-status-requires
-put-status-requires c κs = search needs
-
 array-share-prefix-buffer : tie.Need-array-share-prefix-buffer
 array-share-prefix-buffer c = within _ _ _ _ (c .before .put-status .kept .0) (c .before .put-status .ensures)
 
 slice-aggregate-print-packet : tie.Need-slice-aggregate-print-packet
 slice-aggregate-print-packet c = sym (part-length _ _ _ _ (c .before .before .put-status .kept .0) (c .before .before .put-status .ensures))
 
-print-packet-requires : tie.Need-print-packet-requires
-print-packet-requires c κs = search needs
-
-returns : tie.Need-returns
-returns c = search needs
-
 pub print-status-spec : {M : Type 1} → statement M
 print-status-spec =
-    tie.close
-    (tie.spec
-    slice-aggregate-put-status
-    put-status-requires
-    array-share-prefix-buffer
-    slice-aggregate-print-packet
-    print-packet-requires
-    returns)
+    tie.close (tie.spec (λ c. search needs) (λ c κs. search needs) array-share-prefix-buffer
+    slice-aggregate-print-packet (λ c κs. search needs) (λ c. search needs))

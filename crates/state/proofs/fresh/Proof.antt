@@ -10,12 +10,9 @@ use Rattle.state.specs.declared.Pulse.the-variants.{Zero}
 use Rattle.state.proofs.fresh.Statement.{statement}
 use Rattle.state.proofs.fresh.Tie as tie
 
-setting-requires : tie.Need-setting-requires
-setting-requires c κs = search needs
-
 returns : tie.Need-returns
 unfolding freshState
 returns c = ap {B = State} (λ (line : LineSetting). record { stage = Setting Zero; id = replicate 16 0xFF; line = line; held = 0 }) (c .setting .ensures)
 
 pub fresh-spec : {M : Type 1} → statement M
-fresh-spec = tie.close (tie.spec setting-requires returns)
+fresh-spec = tie.close (tie.spec (λ c κs. search needs) returns)

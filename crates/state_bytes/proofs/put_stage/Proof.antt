@@ -5,27 +5,6 @@ use borrow.Author.Needs.{needs}
 use Rattle.state_bytes.proofs.put_stage.Statement.{statement}
 use Rattle.state_bytes.proofs.put_stage.Tie as tie
 
-range-of-requires : tie.Need-range-of-requires
-range-of-requires c κs = search needs
-
-stage-number-requires : tie.Need-stage-number-requires
-stage-number-requires c κs = search needs
-
-slice-write-bytes : tie.Need-slice-write-bytes
-slice-write-bytes c = search needs
-
-pulses-of-requires : tie.Need-pulses-of-requires
-pulses-of-requires c κs = search needs
-
-slice-write-bytes-2 : tie.Need-slice-write-bytes-2
-slice-write-bytes-2 c = search needs
-
-write-four-requires : tie.Need-write-four-requires
-write-four-requires c κs = search needs
-
-write-four-requires-2 : tie.Need-write-four-requires-2
-write-four-requires-2 c κs = search needs
-
 same-length : tie.Need-same-length
 same-length c = simp (c .before .before .write-four2 .kept .0, c .before .before .before .before .before .before .write-four .kept .0, length-set)
 
@@ -34,14 +13,5 @@ returns c = stage-put (c .before .before .before .before .before .before .before
 
 pub put-stage-spec : {M : Type 1} → statement M
 put-stage-spec =
-    tie.close
-    (tie.spec
-    range-of-requires
-    stage-number-requires
-    slice-write-bytes
-    pulses-of-requires
-    slice-write-bytes-2
-    write-four-requires
-    write-four-requires-2
-    same-length
-    returns)
+    tie.close (tie.spec (λ c κs. search needs) (λ c κs. search needs) (λ c. search needs) (λ c κs. search needs)
+    (λ c. search needs) (λ c κs. search needs) (λ c κs. search needs) same-length returns)

@@ -8,22 +8,10 @@ use Rattle.state_bytes.proofs.put_state.Tie as tie
 returns : tie.Need-returns
 returns c = simp (ne-eqb _ _ (c .if1 .taken))
 
-put-stage-requires : tie.Need-put-stage-requires
-put-stage-requires c κs = search needs
-
-put-id-requires : tie.Need-put-id-requires
-put-id-requires c κs = search needs
-
-put-line-requires : tie.Need-put-line-requires
-put-line-requires c κs = search needs
-
-same-length : tie.Need-same-length
-same-length c = search needs
-
 returns-2 : tie.Need-returns-2
 returns-2 c = rw (eq-eqb _ _ (c .before .before .before .before .before .before .before .before .before .before .before .before .before .before .if1 .left)) (state-put (c .before .before .before .before .before .before .before .before .before .before .before .before .before .before .before .before .args .state) (c .before .before .before .before .before .before .before .before .before .before .before .before .before .before .before .before .args .bytes .now) (c .before .before .before .before .before .before .before .before .before .before .put-stage .last .0) (c .before .before .before .before .before .before .put-id .last .0) (c .before .before .put-line .last .0) (c .before .before .before .before .before .before .before .before .before .before .before .before .before .before .if1 .left) (search needs) (c .before .before .before .before .before .before .before .before .before .before .put-stage .ensures) (c .before .before .before .before .before .before .put-id .ensures) (c .before .before .put-line .ensures))
 
 pub put-state-spec : {M : Type 1} → statement M
 put-state-spec =
-    tie.close
-    (tie.spec returns put-stage-requires put-id-requires put-line-requires same-length returns-2)
+    tie.close (tie.spec returns (λ c κs. search needs) (λ c κs. search needs) (λ c κs. search needs)
+    (λ c. search needs) returns-2)

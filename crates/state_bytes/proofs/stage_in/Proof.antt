@@ -10,33 +10,11 @@ returns : tie.Need-returns
 unfolding stageIn
 returns c = simp (ne-eqb _ _ (c .if1 .taken))
 
-four-at-requires : tie.Need-four-at-requires
-four-at-requires c κs = search needs
-
-four-at-requires-2 : tie.Need-four-at-requires-2
-four-at-requires-2 c κs = search needs
-
-byte-at-requires : tie.Need-byte-at-requires
-byte-at-requires c κs = search needs
-
-byte-at-requires-2 : tie.Need-byte-at-requires-2
-byte-at-requires-2 c κs = search needs
-
-stage-of-requires : tie.Need-stage-of-requires
-stage-of-requires c κs = search needs
-
 returns-2 : tie.Need-returns-2
 unfolding stageIn
 returns-2 c = rw (eq-eqb _ _ (c .before .before .before .before .before .if1 .left), sym (c .before .before .before .before .four-at .ensures), sym (c .before .before .before .four-at2 .ensures), sym (c .before .before .byte-at .ensures), sym (c .before .byte-at2 .ensures)) (c .stage-of .ensures)
 
 pub stage-in-spec : {M : Type 1} → statement M
 stage-in-spec =
-    tie.close
-    (tie.spec
-    returns
-    four-at-requires
-    four-at-requires-2
-    byte-at-requires
-    byte-at-requires-2
-    stage-of-requires
-    returns-2)
+    tie.close (tie.spec returns (λ c κs. search needs) (λ c κs. search needs) (λ c κs. search needs)
+    (λ c κs. search needs) (λ c κs. search needs) returns-2)

@@ -6,12 +6,6 @@ use borrow.Author.Needs.{needs}
 use Rattle.state_bytes.proofs.stage_of.Statement.{statement}
 use Rattle.state_bytes.proofs.stage_of.Tie as tie
 
-is-none-requires : tie.Need-is-none-requires
-is-none-requires c κs = search needs
-
-setting-in-requires : tie.Need-setting-in-requires
-setting-in-requires c κs = search needs
-
 returns : tie.Need-returns
 unfolding stageOf
 returns c = simp (eq-eqb _ _ (c .before .before .before .if1 .taken), sym (c .before .before .is-none .ensures), c .before .if2 .taken) (c .setting-in .ensures)
@@ -32,9 +26,6 @@ returns-5 : tie.Need-returns-5
 unfolding stageOf
 returns-5 c = simp (ne-eqb _ _ (c .before .before .before .if1 .left), eq-eqb _ _ (c .before .before .if3 .left), ne-eqb _ _ (c .before .if4 .left), eq-eqb _ _ (c .if5 .taken))
 
-is-none-requires-2 : tie.Need-is-none-requires-2
-is-none-requires-2 c κs = search needs
-
 returns-6 : tie.Need-returns-6
 unfolding stageOf
 returns-6 c = simp (ne-eqb _ _ (c .before .before .before .before .before .if1 .left), eq-eqb _ _ (c .before .before .before .before .if3 .left), ne-eqb _ _ (c .before .before .before .if4 .left), ne-eqb _ _ (c .before .before .if5 .left), sym (c .before .is-none2 .ensures), not-true (c .before .is-none2 .result) (c .if6 .taken))
@@ -53,17 +44,5 @@ returns-9 c = simp (ne-eqb _ _ (c .before .before .before .before .before .befor
 
 pub stage-of-spec : {M : Type 1} → statement M
 stage-of-spec =
-    tie.close
-    (tie.spec
-    is-none-requires
-    setting-in-requires
-    returns
-    returns-2
-    returns-3
-    returns-4
-    returns-5
-    is-none-requires-2
-    returns-6
-    returns-7
-    returns-8
-    returns-9)
+    tie.close (tie.spec (λ c κs. search needs) (λ c κs. search needs) returns returns-2 returns-3 returns-4
+    returns-5 (λ c κs. search needs) returns-6 returns-7 returns-8 returns-9)

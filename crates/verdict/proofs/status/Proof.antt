@@ -3,20 +3,10 @@ use borrow.Author.Needs.{needs}
 use Rattle.verdict.proofs.status.Statement.{statement}
 use Rattle.verdict.proofs.status.Tie as tie
 
-enum-told : tie.Need-enum-told
-enum-told c = search needs
-
-enum-known-verdict : tie.Need-enum-known-verdict
-enum-known-verdict c = search needs
-
-code-requires : tie.Need-code-requires
-code-requires c κs = search needs
-
-returns : tie.Need-returns
-returns c = search needs
-
 returns-2 : tie.Need-returns-2
 returns-2 c = rw (c .before .before .verdict .given .1) (c .code .ensures)
 
 pub status-spec : {M : Type 1} → statement M
-status-spec = tie.close (tie.spec enum-told enum-known-verdict code-requires returns returns-2)
+status-spec =
+    tie.close (tie.spec (λ c. search needs) (λ c. search needs) (λ c κs. search needs) (λ c. search needs)
+    returns-2)

@@ -1,5 +1,6 @@
 -- `device::feeding::turns` meets its contract. The loop keeps that the whole delivery gives what its rest gives, later by the bytes done, and that no reply came. Assumes nothing.
-use Rattle.device.proofs.Turns.{Turned, turned-none, turned-holds, turned-more, turned-on, room, ran-reply, ran-end}
+use Rattle.device_calls.specs.Calls.{buffers}
+use Rattle.device.proofs.Turns.{Turned, turned-none, turned-holds, turned-more, turned-on, fits-in, ran-reply, ran-end}
 use borrow.Author.Needs.{needs}
 use lib.ListN.{length}
 use native.Mathlib.Omega.{arith}
@@ -10,17 +11,14 @@ use Rattle.device.proofs.feeding.turns.Tie as tie
 
 abbrev Inv-loop : tie.InvT-loop
 Inv-loop profile image₀ receive₀ reply₀ input now-state₀ i₀ count₀ image receive reply now-state i count =
-    Turned profile image₀ receive₀ reply₀ input now-state₀ image receive reply now-state i × (count ≡ 0)
+    Turned profile (buffers image₀ receive₀ reply₀) input now-state₀ (buffers image receive reply) now-state i × (count ≡ 0)
 
 abbrev μ-loop : tie.MeasureT-loop
 μ-loop profile image₀ receive₀ reply₀ input now-state₀ i₀ count₀ image receive reply now-state i count =
     length input - i
 
 loop-holds : tie.Need-loop-holds Inv-loop μ-loop
-loop-holds c = let a = c .before .before .before .before .args in (turned-none (a .profile) (a .image .now) (a .receive .now) (a .reply .now) (a .input .now) (a .state) (c .before .before .before .before .pre), refl)
-
-shared-slice-read-step : tie.Need-shared-slice-read-step Inv-loop μ-loop
-shared-slice-read-step c = search needs
+loop-holds c = let a = c .before .before .before .before .args in (turned-none (a .profile) (buffers (a .image .now) (a .receive .now) (a .reply .now)) (a .input .now) (a .state) (c .before .before .before .before .pre), refl)
 
 step-requires : tie.Need-step-requires Inv-loop μ-loop
 step-requires c κs = c .before .before .before .before .before .loop .inv .0 .ready
@@ -28,32 +26,26 @@ step-requires c κs = c .before .before .before .before .before .loop .inv .0 .r
 add-i : tie.Need-add-i Inv-loop μ-loop
 add-i c = omega (arith, c .before .before .before .before .before .before .before .before .before .before .before .before .loop-test .taken, c .before .before .before .before .before .before .before .before .before .before .before .before .before .before .before .before .before .before .good .1 .1 .1 .1 .1)
 
-sub-gather : tie.Need-sub-gather Inv-loop μ-loop
-sub-gather c = omega (arith, c .before .before .before .before .before .before .before .before .before .before .before .before .before .before .loop-test .taken)
+sub-add : tie.Need-sub-add Inv-loop μ-loop
+sub-add c = omega (arith, c .before .before .before .before .before .before .before .before .before .before .before .before .before .before .loop-test .taken)
 
-part-gather-start : tie.Need-part-gather-start Inv-loop μ-loop
-part-gather-start c = omega (arith, c .before .before .before .before .before .before .before .before .before .before .before .before .before .before .loop-test .taken)
+part-add-start : tie.Need-part-add-start Inv-loop μ-loop
+part-add-start c = omega (arith, c .before .before .before .before .before .before .before .before .before .before .before .before .before .before .loop-test .taken)
 
-part-gather-end : tie.Need-part-gather-end Inv-loop μ-loop
-part-gather-end c = search needs
+add-requires : tie.Need-add-requires Inv-loop μ-loop
+add-requires c κs = turned-holds (turned-on (c .before .before .before .before .before .before .before .before .before .before .before .before .before .before .before .before .loop .inv .0) (c .before .before .before .before .before .before .before .before .before .before .before .before .before .before .before .loop-test .taken) (c .before .before .before .before .before .before .before .before .before .before .step .ensures) (c .before .before .if1 .left) (c .before .before .before .before .before .before .before .before .before .before .step .kept .1 .0) (c .before .before .before .before .before .before .before .before .before .before .step .kept .1 .1 .1 .0) (c .before .before .before .before .before .before .before .before .before .before .step .kept .1 .1 .1 .1 .0))
 
-gather-requires : tie.Need-gather-requires Inv-loop μ-loop
-gather-requires c κs = turned-holds (turned-on (c .before .before .before .before .before .before .before .before .before .before .before .before .before .before .before .before .loop .inv .0) (c .before .before .before .before .before .before .before .before .before .before .before .before .before .before .before .loop-test .taken) (c .before .before .before .before .before .before .before .before .before .before .step .ensures) (c .before .before .if1 .left) (c .before .before .before .before .before .before .before .before .before .before .step .kept .1 .0) (c .before .before .before .before .before .before .before .before .before .before .step .kept .1 .1 .1 .0) (c .before .before .before .before .before .before .before .before .before .before .step .kept .1 .1 .1 .1 .0))
-
-add-holding : tie.Need-add-holding Inv-loop μ-loop
-add-holding c = let t = (turned-on (c .before .before .before .before .before .before .before .before .before .before .before .before .before .before .before .before .before .before .before .loop .inv .0) (c .before .before .before .before .before .before .before .before .before .before .before .before .before .before .before .before .before .before .loop-test .taken) (c .before .before .before .before .before .before .before .before .before .before .before .before .before .step .ensures) (c .before .before .before .before .before .if1 .left) (c .before .before .before .before .before .before .before .before .before .before .before .before .before .step .kept .1 .0) (c .before .before .before .before .before .before .before .before .before .before .before .before .before .step .kept .1 .1 .1 .0) (c .before .before .before .before .before .before .before .before .before .before .before .before .before .step .kept .1 .1 .1 .1 .0)) in omega (arith, room t (c .before .before .gather .ensures), t .receive, c .before .before .before .before .before .before .before .before .before .before .before .before .before .before .before .before .before .before .before .before .before .before .before .before .good .1 .1 .1 .0)
-
-holding-requires : tie.Need-holding-requires Inv-loop μ-loop
-holding-requires c κs = search needs
+add-with-held : tie.Need-add-with-held Inv-loop μ-loop
+add-with-held c = let t = (turned-on (c .before .before .before .before .before .before .before .before .before .before .before .before .before .before .before .before .before .before .before .loop .inv .0) (c .before .before .before .before .before .before .before .before .before .before .before .before .before .before .before .before .before .before .loop-test .taken) (c .before .before .before .before .before .before .before .before .before .before .before .before .before .step .ensures) (c .before .before .before .before .before .if1 .left) (c .before .before .before .before .before .before .before .before .before .before .before .before .before .step .kept .1 .0) (c .before .before .before .before .before .before .before .before .before .before .before .before .before .step .kept .1 .1 .1 .0) (c .before .before .before .before .before .before .before .before .before .before .before .before .before .step .kept .1 .1 .1 .1 .0)) in omega (arith, fits-in t (c .before .before .add .ensures), t .receive, c .before .before .before .before .before .before .before .before .before .before .before .before .before .before .before .before .before .before .before .before .before .before .before .before .good .1 .1 .1 .0)
 
 add-i-2 : tie.Need-add-i-2 Inv-loop μ-loop
-add-i-2 c = let t = turned-more (turned-on (c .before .before .before .before .before .before .before .before .before .before .before .before .before .before .before .before .before .before .before .before .loop .inv .0) (c .before .before .before .before .before .before .before .before .before .before .before .before .before .before .before .before .before .before .before .loop-test .taken) (c .before .before .before .before .before .before .before .before .before .before .before .before .before .before .step .ensures) (c .before .before .before .before .before .before .if1 .left) (c .before .before .before .before .before .before .before .before .before .before .before .before .before .before .step .kept .1 .0) (c .before .before .before .before .before .before .before .before .before .before .before .before .before .before .step .kept .1 .1 .1 .0) (c .before .before .before .before .before .before .before .before .before .before .before .before .before .before .step .kept .1 .1 .1 .1 .0)) (c .before .before .before .gather .ensures) (c .holding .ensures) in omega (arith, t .within, c .before .before .before .before .before .before .before .before .before .before .before .before .before .before .before .before .before .before .before .before .before .before .before .before .before .good .1 .1 .1 .1 .1)
+add-i-2 c = let t = turned-more (turned-on (c .before .before .before .before .before .before .before .before .before .before .before .before .before .before .before .before .before .before .before .before .loop .inv .0) (c .before .before .before .before .before .before .before .before .before .before .before .before .before .before .before .before .before .before .before .loop-test .taken) (c .before .before .before .before .before .before .before .before .before .before .before .before .before .before .step .ensures) (c .before .before .before .before .before .before .if1 .left) (c .before .before .before .before .before .before .before .before .before .before .before .before .before .before .step .kept .1 .0) (c .before .before .before .before .before .before .before .before .before .before .before .before .before .before .step .kept .1 .1 .1 .0) (c .before .before .before .before .before .before .before .before .before .before .before .before .before .before .step .kept .1 .1 .1 .1 .0)) (c .before .before .before .add .ensures) (c .with-held .ensures) in omega (arith, t .within, c .before .before .before .before .before .before .before .before .before .before .before .before .before .before .before .before .before .before .before .before .before .before .before .before .before .good .1 .1 .1 .1 .1)
 
 loop-less : tie.Need-loop-less Inv-loop μ-loop
 loop-less c = omega (arith, c .before .before .before .before .before .before .before .before .before .before .before .before .before .before .before .before .before .before .before .loop-test .taken)
 
 loop-again : tie.Need-loop-again Inv-loop μ-loop
-loop-again c = (turned-more (turned-on (c .before .before .before .before .before .before .before .before .before .before .before .before .before .before .before .before .before .before .before .before .loop .inv .0) (c .before .before .before .before .before .before .before .before .before .before .before .before .before .before .before .before .before .before .before .loop-test .taken) (c .before .before .before .before .before .before .before .before .before .before .before .before .before .before .step .ensures) (c .before .before .before .before .before .before .if1 .left) (c .before .before .before .before .before .before .before .before .before .before .before .before .before .before .step .kept .1 .0) (c .before .before .before .before .before .before .before .before .before .before .before .before .before .before .step .kept .1 .1 .1 .0) (c .before .before .before .before .before .before .before .before .before .before .before .before .before .before .step .kept .1 .1 .1 .1 .0)) (c .before .before .before .gather .ensures) (c .holding .ensures), c .before .before .before .before .before .before .if1 .left)
+loop-again c = (turned-more (turned-on (c .before .before .before .before .before .before .before .before .before .before .before .before .before .before .before .before .before .before .before .before .loop .inv .0) (c .before .before .before .before .before .before .before .before .before .before .before .before .before .before .before .before .before .before .before .loop-test .taken) (c .before .before .before .before .before .before .before .before .before .before .before .before .before .before .step .ensures) (c .before .before .before .before .before .before .if1 .left) (c .before .before .before .before .before .before .before .before .before .before .before .before .before .before .step .kept .1 .0) (c .before .before .before .before .before .before .before .before .before .before .before .before .before .before .step .kept .1 .1 .1 .0) (c .before .before .before .before .before .before .before .before .before .before .before .before .before .before .step .kept .1 .1 .1 .1 .0)) (c .before .before .before .add .ensures) (c .with-held .ensures), c .before .before .before .before .before .before .if1 .left)
 
 same-length : tie.Need-same-length Inv-loop μ-loop
 same-length c = c .before .loop .inv .0 .image
@@ -81,28 +73,7 @@ returns-2 c = ran-reply (c .before .before .before .before .before .before .befo
 
 pub turns-spec : {M : Type 1} → statement M
 turns-spec =
-    tie.close
-    (tie.spec
-    Inv-loop
-    μ-loop
-    loop-holds
-    shared-slice-read-step
-    step-requires
-    add-i
-    sub-gather
-    part-gather-start
-    part-gather-end
-    gather-requires
-    add-holding
-    holding-requires
-    add-i-2
-    loop-less
-    loop-again
-    same-length
-    same-length-2
-    same-length-3
-    returns
-    same-length-4
-    same-length-5
-    same-length-6
+    tie.close (tie.spec Inv-loop μ-loop loop-holds (λ c. search needs) step-requires add-i sub-add
+    part-add-start (λ c. search needs) add-requires add-with-held (λ c κs. search needs) add-i-2 loop-less
+    loop-again same-length same-length-2 same-length-3 returns same-length-4 same-length-5 same-length-6
     returns-2)

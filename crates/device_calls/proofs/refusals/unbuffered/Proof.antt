@@ -7,9 +7,6 @@ use Rattle.device_calls.specs.Calls.{bufferRows}
 use Rattle.device_calls.proofs.refusals.unbuffered.Statement.{statement}
 use Rattle.device_calls.proofs.refusals.unbuffered.Tie as tie
 
-fits-requires : tie.Need-fits-requires
-fits-requires c κs = search needs
-
 returns : tie.Need-returns
 unfolding firstFault bufferRows
 returns c = simp (sym (c .before .fits2 .ensures) ∙ not-true _ (c .if1 .taken))
@@ -27,4 +24,4 @@ unfolding firstFault bufferRows
 returns-4 c = simp (sym (c .before .before .before .fits2 .ensures) ∙ not-false _ (c .before .before .if1 .left), le-ltb _ _ (c .before .if2 .left), le-ltb _ _ (c .if3 .left))
 
 pub unbuffered-spec : {M : Type 1} → statement M
-unbuffered-spec = tie.close (tie.spec fits-requires returns returns-2 returns-3 returns-4)
+unbuffered-spec = tie.close (tie.spec (λ c κs. search needs) returns returns-2 returns-3 returns-4)

@@ -7,15 +7,6 @@ use Rattle.device_calls.proofs.Rows.{breaks-not, start-first, start-sec
 use Rattle.device_calls.proofs.refusals.unstarted.Statement.{statement}
 use Rattle.device_calls.proofs.refusals.unstarted.Tie as tie
 
-judge-requires : tie.Need-judge-requires
-judge-requires c κs = search needs
-
-enum-told : tie.Need-enum-told
-enum-told c = search needs
-
-enum-told-2 : tie.Need-enum-told-2
-enum-told-2 c = search needs
-
 returns : tie.Need-returns
 returns c =
     let a = c .before .before .before .before .before .args in
@@ -38,4 +29,5 @@ returns-3 c =
 
 pub unstarted-spec : {M : Type 1} → statement M
 unstarted-spec =
-    tie.close (tie.spec judge-requires enum-told enum-told-2 returns returns-2 returns-3)
+    tie.close (tie.spec (λ c κs. search needs) (λ c. search needs) (λ c. search needs) returns returns-2
+    returns-3)

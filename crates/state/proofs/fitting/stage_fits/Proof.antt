@@ -4,27 +4,6 @@ use borrow.Author.Needs.{needs}
 use Rattle.state.proofs.fitting.stage_fits.Statement.{statement}
 use Rattle.state.proofs.fitting.stage_fits.Tie as tie
 
-enum-told : tie.Need-enum-told
-enum-told c = search needs
-
-enum-told-2 : tie.Need-enum-told-2
-enum-told-2 c = search needs
-
-enum-told-3 : tie.Need-enum-told-3
-enum-told-3 c = search needs
-
-enum-known-stage : tie.Need-enum-known-stage
-enum-known-stage c = search needs
-
-range-fits-requires : tie.Need-range-fits-requires
-range-fits-requires c κs = search needs
-
-enum-known-stage-2 : tie.Need-enum-known-stage-2
-enum-known-stage-2 c = search needs
-
-range-fits-requires-2 : tie.Need-range-fits-requires-2
-range-fits-requires-2 c κs = search needs
-
 returns : tie.Need-returns
 unfolding stageFits
 returns c = rw (c .enum-told .given .1)
@@ -47,17 +26,6 @@ returns-5 c = rw (c .before .before .stage2 .given .1) (c .range-fits2 .ensures)
 
 pub stage-fits-spec : {M : Type 1} → statement M
 stage-fits-spec =
-    tie.close
-    (tie.spec
-    enum-told
-    enum-told-2
-    enum-told-3
-    enum-known-stage
-    range-fits-requires
-    enum-known-stage-2
-    range-fits-requires-2
-    returns
-    returns-2
-    returns-3
-    returns-4
+    tie.close (tie.spec (λ c. search needs) (λ c. search needs) (λ c. search needs) (λ c. search needs)
+    (λ c κs. search needs) (λ c. search needs) (λ c κs. search needs) returns returns-2 returns-3 returns-4
     returns-5)
