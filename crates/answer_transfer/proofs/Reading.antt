@@ -1,10 +1,11 @@
 -- The next packet of a read, put together from its parts. Assumes nothing.
 use mathlib.Core.List.{List}
-use mathlib.Core.Path.{_≡_, ap}
+use mathlib.Core.Path.{_≡_, refl, ap}
 use Prim.Native.Nat.{ℕ, _≤_}
 use native.Mathlib.Omega.{arith}
 use lib.ListN.{length}
 use Rattle.verdict.specs.declared.Verdict.{Verdict}
+use Rattle.verdict.specs.declared.Verdict.the-variants.{Granted, Refused}
 use Rattle.verdict.specs.Check.{firstFault, verdictOf}
 use Rattle.profile.specs.declared.Profile.{Profile}
 use Rattle.profile.specs.Areas.{areasOf}
@@ -43,3 +44,12 @@ module _ (p : Profile) (image : List ℕ) (st : State) (range : Range) {r : Answ
       → Answers (answerNext p image st range q) r before behind
   unfolding answerNext
   next-answered q e s = answers-as (ap (nextDecided p image st range) e) s
+
+-- a packet in a read has no act
+pub next-act : (p : Profile) (image : List ℕ) (st : State) (r : Range) (q : List ℕ) → answerNext p image st r q .act ≡ Nothing
+unfolding answerNext nextDecided readPacket
+next-act p image st r q = by (verdictOf (firstFault (nextChecks q)))
+  where
+    by : (v : Verdict) → nextDecided p image st r v .act ≡ Nothing
+    by Granted = refl
+    by (Refused reason) = refl

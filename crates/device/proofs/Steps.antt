@@ -22,6 +22,7 @@ use Rattle.flash.specs.Acts.{performed}
 use Rattle.state.specs.declared.Awaited.{Awaited}
 use Rattle.state.specs.declared.Awaited.the-variants.{WakeUp, Packet}
 use Rattle.state.specs.declared.Pulse.{Pulse}
+use Rattle.state.specs.declared.Range.{Range}
 use Rattle.state.specs.declared.Stage.{Stage}
 use Rattle.state.specs.declared.Stage.the-variants.{Setting, Authentication, Command, Writing, Reading}
 use Rattle.state.specs.declared.State.{State}
@@ -31,6 +32,8 @@ use Rattle.state.specs.Fits.{stageFits}
 use Rattle.state.specs.Fit.{Fit}
 use Rattle.answer.specs.declared.Answered.{Answered}
 use Rattle.answer.specs.Answer.{Answer, Answers}
+use Rattle.answer_transfer.specs.Transfers.{answerNext}
+use Rattle.answer_transfer.proofs.Reading.{next-act}
 use Rattle.answer_waking.specs.Wake.{wakeOf}
 use Rattle.answer_waking.proofs.Woken.{front-nothing, wake-act}
 use Rattle.device_calls.specs.Calls.{Lent, buffers}
@@ -75,6 +78,18 @@ pub performed-as : (p : Profile) (im₀ : List ℕ) {act act′ : Act} {bytes by
     → im ≡ performed (areasOf p) act bytes im₀ → im ≡ performed (areasOf p) act′ bytes′ im₀
 performed-as p im₀ {act′ = act′} {bytes = bytes} e f h =
     h ∙ ap (λ (a : Act). performed (areasOf p) a bytes im₀) e ∙ ap (λ (x : List ℕ). performed (areasOf p) act′ x im₀) f
+
+-- what a complete packet leaves, by an equal answer
+pub completes-as : {p : Profile} {a a′ : Answer} {q im₀ im before after : List ℕ} {r : Answered} → a ≡ a′ → Completes p a q r im₀ im before after
+    → Completes p a′ q r im₀ im before after
+completes-as {p} {q = q} {im₀ = im₀} {im = im} {before = before} {after = after} {r = r} e k = subst (λ (x : Answer). Completes p x q r im₀ im before after) e k
+
+-- a packet in a read has no act
+pub next-completes : (p : Profile) (image : List ℕ) (st : State) (g : Range) (q : List ℕ) {r : Answered} {before after : List ℕ}
+    → Answers (answerNext p image st g q) r before after → Completes p (answerNext p image st g q) q r image image before after
+unfolding performed
+next-completes p image st g q k =
+    record { answers = k; image = ap (λ (x : Act). performed (areasOf p) x (infoOf q) image) (sym (next-act p image st g q)) }
 
 module _ (p : Profile) (st : State) (l : Lent) (b : ℕ) (ready : Ready p st l) where
   abbrev m : Machine

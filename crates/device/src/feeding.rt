@@ -1,12 +1,18 @@
 // A delivery: bytes that only add to a packet at once, the others one by one.
 ghost use mathlib.Core.Path.{_≡_};
+ghost use Prim.Native.Nat.{_+_, _≤_};
+ghost use Rattle.profile.specs.Areas.{areasOf};
 ghost use Rattle.profile_rules.specs.Rules.{Accepted as AcceptedProfile};
 ghost use Rattle.packet.specs.Frame.{Roomy};
+ghost use Rattle.packet_fields.specs.Fields.{infoOf};
 ghost use Rattle.flash.specs.declared.Act.the-variants.{Nothing};
+ghost use Rattle.flash.specs.Acts.{performed};
 ghost use Rattle.state.specs.declared.Awaited.the-variants.{Packet};
 ghost use Rattle.state.specs.Awaits.{awaitsOf};
 ghost use Rattle.state.specs.State.{withHeld};
 ghost use Rattle.answer.specs.Answer.{Answers};
+ghost use Rattle.answer_command.specs.Grants.{answerCommand};
+ghost use Rattle.answer_transfer.specs.Transfers.{answerWrite};
 ghost use Rattle.device_calls.specs.Calls.{buffers};
 ghost use Rattle.device_calls.specs.Ready.{Ready};
 ghost use Rattle.device_steps.specs.Step.{machineOf, earlyOf, refusedEarly, answerOf, stepOf};
@@ -28,6 +34,7 @@ use packet::Progress;
 use packet_gather::gather;
 use profile::Profile;
 use state::Awaited;
+use state::Range;
 use state::Stage;
 use state::State;
 use state::awaits;
@@ -78,22 +85,51 @@ fn refuse_early(state: State, reply: &mut [u8]) -> Answered
     )
 }
 
-// What answers a complete packet. Setting awaits none.
-fn decide(profile: Profile, image: &[u8], state: State, packet: &[u8], reply: &mut [u8]) -> Answered
-    requires { ⌜ AcceptedProfile profile × RangeIn (state .stage) × Roomy (now reply) ⌝ }
-    ensures { λ r. ⌜ Answers (answerOf profile (now (image .entry)) state (state .stage) (now (packet .entry))) r (now (reply .entry)) (now (reply .exit)) ⌝ }
+// The act of an answer, with the packet's data bytes. No other line of the device changes the flash.
+fn act_on(image: &mut [u8], profile: Profile, act: Act, packet: &[u8])
+    ensures { λ _. ⌜ now (image .exit) ≡ performed (areasOf profile) act (infoOf (now (packet .entry))) (now (image .entry)) ⌝ }
 {
-    let stage = state.stage;
-    match stage {
-        Stage::Setting(_) => answer_command(profile, image, state, packet, reply),
-        Stage::Authentication => answer_command(profile, image, state, packet, reply),
-        Stage::Command => answer_command(profile, image, state, packet, reply),
-        Stage::Writing(range) => answer_write(profile, image, state, range, packet, reply),
-        Stage::Reading(range) => answer_next(profile, image, state, range, packet, reply),
-    }
+    flash::perform(image, profile, act, packet_fields::info(packet));
 }
 
-// A complete packet: it is answered, and then its act is performed. No other line of the device changes the flash.
+// A command: it is answered, and then its act is performed.
+fn obey(
+    profile: Profile,
+    image: &mut [u8],
+    state: State,
+    packet: &[u8],
+    reply: &mut [u8],
+) -> Answered
+    requires { ⌜ AcceptedProfile profile × Roomy (now reply) ⌝ }
+    ensures { λ r. ⌜ Completes profile (answerCommand profile (now (image .entry)) state (now (packet .entry))) (now (packet .entry)) r
+        (now (image .entry)) (now (image .exit)) (now (reply .entry)) (now (reply .exit)) ⌝ }
+{
+    let answered = answer_command(profile, image, state, packet, reply);
+    let act = answered.act;
+    act_on(image, profile, act, packet);
+    answered
+}
+
+// Write data: likewise.
+fn take_data(
+    profile: Profile,
+    image: &mut [u8],
+    state: State,
+    range: Range,
+    packet: &[u8],
+    reply: &mut [u8],
+) -> Answered
+    requires { ⌜ (range .next + range .left ≤ 4294967296) × Roomy (now reply) ⌝ }
+    ensures { λ r. ⌜ Completes profile (answerWrite profile (now (image .entry)) state range (now (packet .entry))) (now (packet .entry)) r
+        (now (image .entry)) (now (image .exit)) (now (reply .entry)) (now (reply .exit)) ⌝ }
+{
+    let answered = answer_write(profile, image, state, range, packet, reply);
+    let store = answered.act;
+    act_on(image, profile, store, packet);
+    answered
+}
+
+// A complete packet. Setting awaits none, and a read has no act.
 fn complete(
     profile: Profile,
     image: &mut [u8],
@@ -105,10 +141,14 @@ fn complete(
     ensures { λ r. ⌜ Completes profile (answerOf profile (now (image .entry)) state (state .stage) (now (packet .entry))) (now (packet .entry)) r
         (now (image .entry)) (now (image .exit)) (now (reply .entry)) (now (reply .exit)) ⌝ }
 {
-    let answered = decide(profile, image, state, packet, reply);
-    let act = answered.act;
-    flash::perform(image, profile, act, packet_fields::info(packet));
-    answered
+    let stage = state.stage;
+    match stage {
+        Stage::Setting(_) => obey(profile, image, state, packet, reply),
+        Stage::Authentication => obey(profile, image, state, packet, reply),
+        Stage::Command => obey(profile, image, state, packet, reply),
+        Stage::Writing(range) => take_data(profile, image, state, range, packet, reply),
+        Stage::Reading(range) => answer_next(profile, image, state, range, packet, reply),
+    }
 }
 
 // No answer: so many bytes are held.

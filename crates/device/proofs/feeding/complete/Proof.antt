@@ -1,13 +1,34 @@
--- `device::feeding::complete` meets its contract: the act that was answered is the one that is performed. Assumes nothing.
-use Rattle.device.proofs.Steps.{performed-as}
+-- `device::feeding::complete` meets its contract. The stage tells which of the three answers it is, and where a range is under way, that it ends within 32 bits. Assumes nothing.
+use Rattle.device.proofs.Steps.{range-at, answer-at, completes-as, next-completes}
 use borrow.Author.Needs.{needs}
 use Rattle.device.proofs.feeding.complete.Statement.{statement}
 use Rattle.device.proofs.feeding.complete.Tie as tie
 
+take-data-requires : tie.Need-take-data-requires
+take-data-requires c κs = (range-at _ _ (c .before .before .before .stage .given .1) (c .before .before .before .before .before .before .before .before .pre .1), c .before .before .before .before .before .before .before .before .pre .2)
+
+answer-next-requires : tie.Need-answer-next-requires
+answer-next-requires c κs = (range-at _ _ (c .before .before .before .stage2 .given .1) (c .before .before .before .before .before .before .before .before .pre .1), c .before .before .before .before .before .before .before .before .pre .2)
+
 returns : tie.Need-returns
-returns c = record { answers = c .before .before .before .before .before .before .before .decide .ensures; image = performed-as (c .before .before .before .before .before .before .before .before .before .before .before .before .before .args .profile) (c .before .before .before .before .before .before .before .before .before .before .before .before .before .args .image .now) (c .before .before .before .before .before .before .before .decide .ensures .act) (c .before .before .before .info .ensures) (c .before .before .perform .ensures) }
+returns c = completes-as (answer-at (c .before .before .before .before .before .before .before .before .before .before .before .before .args .profile) (c .before .before .before .before .before .before .before .before .before .before .before .before .args .image .now) (c .before .before .before .before .before .before .before .before .before .before .before .before .args .state) (c .before .before .before .before .before .before .before .before .before .before .before .before .args .packet .now) (c .before .before .before .before .before .before .before .enum-told .given .1)) (c .before .before .before .before .obey .ensures)
+
+returns-2 : tie.Need-returns-2
+returns-2 c = completes-as (answer-at (c .before .before .before .before .before .before .before .before .before .before .before .before .args .profile) (c .before .before .before .before .before .before .before .before .before .before .before .before .args .image .now) (c .before .before .before .before .before .before .before .before .before .before .before .before .args .state) (c .before .before .before .before .before .before .before .before .before .before .before .before .args .packet .now) (c .before .before .before .before .before .before .before .enum-told2 .given .1)) (c .before .before .before .before .obey2 .ensures)
+
+returns-3 : tie.Need-returns-3
+returns-3 c = completes-as (answer-at (c .before .before .before .before .before .before .before .before .before .before .before .before .args .profile) (c .before .before .before .before .before .before .before .before .before .before .before .before .args .image .now) (c .before .before .before .before .before .before .before .before .before .before .before .before .args .state) (c .before .before .before .before .before .before .before .before .before .before .before .before .args .packet .now) (c .before .before .before .before .before .before .before .enum-told3 .given .1)) (c .before .before .before .before .obey3 .ensures)
+
+returns-4 : tie.Need-returns-4
+returns-4 c = completes-as (answer-at (c .before .before .before .before .before .before .before .before .before .before .before .before .before .args .profile) (c .before .before .before .before .before .before .before .before .before .before .before .before .before .args .image .now) (c .before .before .before .before .before .before .before .before .before .before .before .before .before .args .state) (c .before .before .before .before .before .before .before .before .before .before .before .before .before .args .packet .now) (c .before .before .before .before .before .before .before .before .stage .given .1)) (c .before .before .before .before .take-data .ensures)
+
+returns-5 : tie.Need-returns-5
+returns-5 c = completes-as (answer-at (c .before .before .before .before .before .before .before .before .before .before .before .args .profile) (c .before .before .before .before .before .before .before .before .before .before .before .args .image .now) (c .before .before .before .before .before .before .before .before .before .before .before .args .state) (c .before .before .before .before .before .before .before .before .before .before .before .args .packet .now) (c .before .before .before .before .before .before .stage2 .given .1)) (next-completes (c .before .before .before .before .before .before .before .before .before .before .before .args .profile) (c .before .before .before .before .before .before .before .before .before .before .before .args .image .now) (c .before .before .before .before .before .before .before .before .before .before .before .args .state) _ (c .before .before .before .before .before .before .before .before .before .before .before .args .packet .now) (c .before .before .answer-next .ensures))
 
 pub complete-spec : {M : Type 1} → statement M
 complete-spec =
-    tie.close (tie.spec (λ c κs. search needs) (λ c κs. search needs) (λ c κs. search needs) (λ c. search needs)
-    (λ c. search needs) returns)
+    tie.close (tie.spec (λ c. search needs) (λ c κs. search needs) (λ c. search needs) (λ c κs. search needs)
+    (λ c. search needs) (λ c κs. search needs) (λ c. search needs) take-data-requires (λ c. search needs)
+    answer-next-requires (λ c. search needs) (λ c. search needs) returns (λ c. search needs) (λ c. search needs)
+    returns-2 (λ c. search needs) (λ c. search needs) returns-3 (λ c. search needs) (λ c. search needs)
+    returns-4 (λ c. search needs) (λ c. search needs) returns-5)
