@@ -22,7 +22,6 @@ use Rattle.flash.specs.Acts.{performed}
 use Rattle.state.specs.declared.Awaited.{Awaited}
 use Rattle.state.specs.declared.Awaited.the-variants.{WakeUp, Packet}
 use Rattle.state.specs.declared.Pulse.{Pulse}
-use Rattle.state.specs.declared.Range.{Range}
 use Rattle.state.specs.declared.Stage.{Stage}
 use Rattle.state.specs.declared.Stage.the-variants.{Setting, Authentication, Command, Writing, Reading}
 use Rattle.state.specs.declared.State.{State}
@@ -32,8 +31,6 @@ use Rattle.state.specs.Fits.{stageFits}
 use Rattle.state.specs.Fit.{Fit}
 use Rattle.answer.specs.declared.Answered.{Answered}
 use Rattle.answer.specs.Answer.{Answer, Answers}
-use Rattle.answer_transfer.specs.Transfers.{answerNext}
-use Rattle.answer_transfer.proofs.Reading.{next-act}
 use Rattle.answer_waking.specs.Wake.{wakeOf}
 use Rattle.answer_waking.proofs.Woken.{front-nothing, wake-act}
 use Rattle.device_calls.specs.Calls.{Lent, buffers}
@@ -42,7 +39,7 @@ use Rattle.device_steps.specs.Step.{Machine, machineOf, Step, settled, holding,
 use Rattle.device_steps.specs.Fits.{FitMachine}
 use Rattle.device_steps.proofs.Going.{going}
 use Rattle.device_steps.proofs.Kept.{machine-fits, state-fits, still-fits, held-short}
-use Rattle.device.specs.Steps.{RangeIn, Completes, Stood}
+use Rattle.device.specs.Steps.{RangeIn, acted, Stood}
 
 -- the bytes held, after the store of one more
 pub held-more : (rc : List ℕ) (n b : ℕ) → n < length rc → take (n + 1) (set rc n b) ≡ take n rc ++ b ∷ []
@@ -79,17 +76,12 @@ pub performed-as : (p : Profile) (im₀ : List ℕ) {act act′ : Act} {bytes by
 performed-as p im₀ {act′ = act′} {bytes = bytes} e f h =
     h ∙ ap (λ (a : Act). performed (areasOf p) a bytes im₀) e ∙ ap (λ (x : List ℕ). performed (areasOf p) act′ x im₀) f
 
--- what a complete packet leaves, by an equal answer
-pub completes-as : {p : Profile} {a a′ : Answer} {q im₀ im before after : List ℕ} {r : Answered} → a ≡ a′ → Completes p a q r im₀ im before after
-    → Completes p a′ q r im₀ im before after
-completes-as {p} {q = q} {im₀ = im₀} {im = im} {before = before} {after = after} {r = r} e k = subst (λ (x : Answer). Completes p x q r im₀ im before after) e k
-
--- a packet in a read has no act
-pub next-completes : (p : Profile) (image : List ℕ) (st : State) (g : Range) (q : List ℕ) {r : Answered} {before after : List ℕ}
-    → Answers (answerNext p image st g q) r before after → Completes p (answerNext p image st g q) q r image image before after
-unfolding performed
-next-completes p image st g q k =
-    record { answers = k; image = ap (λ (x : Act). performed (areasOf p) x (infoOf q) image) (sym (next-act p image st g q)) }
+-- the buffers after the act was performed
+pub stood-done : {s : Step} {p : Profile} {l : Lent} {r : Answered} (image : List ℕ) (n : ℕ) {im bytes receive reply : List ℕ}
+    → Stood s p l (acted p image (r .act) n receive reply) r → bytes ≡ infoOf (take n receive) → im ≡ performed (areasOf p) (r .act) bytes image
+    → Stood s p l (buffers im receive reply) r
+stood-done {s} {p} {l} {r} image n {receive = receive} {reply = reply} k e h =
+    subst (λ (x : List ℕ). Stood s p l (buffers x receive reply) r) (sym (performed-as p image refl e h)) k
 
 module _ (p : Profile) (st : State) (l : Lent) (b : ℕ) (ready : Ready p st l) where
   abbrev m : Machine
@@ -150,23 +142,29 @@ module _ (p : Profile) (st : State) (l : Lent) (b : ℕ) (ready : Ready p st l) 
   unfolding stepOf
   step-at e = ap (λ (a : Awaited). stepIn p m a b) e
 
-  -- nothing is performed
+  -- nothing is to be performed
   still : (bytes : List ℕ) {act : Act} → act ≡ Nothing → l .image ≡ performed (areasOf p) act bytes (l .image)
   unfolding performed
   still bytes e = ap (λ (a : Act). performed (areasOf p) a bytes (l .image)) (sym e)
 
+  idle : {r : Answered} {rc reply : List ℕ} → r .act ≡ Nothing → Stood s p l (buffers (l .image) rc reply) r → Stood s p l (acted p (l .image) (r .act) (st .held + 1) rc reply) r
+  idle {r} {rc} {reply} e k = subst (λ (x : List ℕ). Stood s p l (buffers x rc reply) r) (still (infoOf (take (st .held + 1) rc)) e) k
+
   -- a byte of waking up
   pub stood-waking : (u : Pulse) (r : Answered) (after : List ℕ) → awaitsOf (st .stage) ≡ WakeUp u → Answers (wakeOf p (l .image) st u b) r (l .reply) after
-      → Stood s p l (buffers (l .image) (l .receive) after) r
+      → Stood s p l (acted p (l .image) (r .act) (st .held + 1) (l .receive) after) r
   unfolding stepIn
   stood-waking u r after e k =
-      stood-settled [] (wakeOf p (l .image) st u b) (buffers (l .image) (l .receive) after) r (ready .receive) (step-at e) k (still [] (wake-act p (l .image) st u b))
+      idle (k .act ∙ wake-act p (l .image) st u b)
+      (stood-settled [] (wakeOf p (l .image) st u b) (buffers (l .image) (l .receive) after) r (ready .receive) (step-at e) k (still [] (wake-act p (l .image) st u b)))
+
+  -- fewer bytes are held than the longest packet has
+  pub few : st .held < 1030
+  few = let f : FitMachine p m = machine-fits p st l (ready .fit) in omega (arith, f .count, held-short p m f)
 
   -- the receive buffer has room for one byte more
   pub room : st .held < length (l .receive)
-  room =
-      let f : FitMachine p m = machine-fits p st l (ready .fit) in
-      omega (arith, f .count, held-short p m f, ready .receive)
+  room = omega (arith, few, ready .receive)
 
   -- a byte where a packet is awaited, by what the bytes are to a packet
   module _ (kind : Kind) (g : Progress) (awaits : awaitsOf (st .stage) ≡ Packet kind)
@@ -177,6 +175,10 @@ module _ (p : Profile) (st : State) (l : Lent) (b : ℕ) (ready : Ready p st l) 
     abbrev q : List ℕ
     q = take (st .held) (l .receive) ++ b ∷ []
 
+    -- the buffers once its act is performed
+    abbrev after-act : Answered → List ℕ → Lent
+    after-act r reply = acted p (l .image) (r .act) (st .held + 1) stored reply
+
     still-long : Roomy stored
     still-long = rw length-set (ready .receive)
 
@@ -185,30 +187,32 @@ module _ (p : Profile) (st : State) (l : Lent) (b : ℕ) (ready : Ready p st l) 
     heard-as v e = step-at awaits ∙ ap (heard p m q) (ap (progressOf kind) (sym (held-more (l .receive) (st .held) b room)) ∙ sym told ∙ e)
 
     -- a byte that starts no packet, and one that could not be there
-    pub stood-astray : (r : Answered) → g ≡ Astray → r ≡ record { act = Nothing; state = withHeld 0 st; count = 0 } → Stood s p l (buffers (l .image) stored (l .reply)) r
+    pub stood-astray : (r : Answered) → g ≡ Astray → r ≡ record { act = Nothing; state = withHeld 0 st; count = 0 } → Stood s p l (after-act r (l .reply)) r
     unfolding heard
-    stood-astray r e h = stood-holding [] 0 stored r still-long (heard-as Astray e) refl refl h
+    stood-astray r e h = idle (ap (λ (x : Answered). x .act) h) (stood-holding [] 0 stored r still-long (heard-as Astray e) refl refl h)
 
-    pub stood-excess : (r : Answered) → g ≡ Excess → r ≡ record { act = Nothing; state = withHeld 0 st; count = 0 } → Stood s p l (buffers (l .image) stored (l .reply)) r
+    pub stood-excess : (r : Answered) → g ≡ Excess → r ≡ record { act = Nothing; state = withHeld 0 st; count = 0 } → Stood s p l (after-act r (l .reply)) r
     unfolding heard
-    stood-excess r e h = stood-holding [] 0 stored r still-long (heard-as Excess e) refl refl h
+    stood-excess r e h = idle (ap (λ (x : Answered). x .act) h) (stood-holding [] 0 stored r still-long (heard-as Excess e) refl refl h)
 
     pub stood-partial : (r : Answered) → g ≡ Partial → r ≡ record { act = Nothing; state = withHeld (st .held + 1) st; count = 0 }
-        → Stood s p l (buffers (l .image) stored (l .reply)) r
+        → Stood s p l (after-act r (l .reply)) r
     unfolding heard
     stood-partial r e h =
-        stood-holding q (st .held + 1) stored r still-long (heard-as Partial e) (sym (held-length (l .receive) (st .held) b room))
-        (held-more (l .receive) (st .held) b room) h
+        idle (ap (λ (x : Answered). x .act) h)
+        (stood-holding q (st .held + 1) stored r still-long (heard-as Partial e) (sym (held-length (l .receive) (st .held) b room))
+        (held-more (l .receive) (st .held) b room) h)
 
-    pub stood-unfit : (r : Answered) (after : List ℕ) → g ≡ Unfit → Answers (refusedEarly st) r (l .reply) after → Stood s p l (buffers (l .image) stored after) r
+    pub stood-unfit : (r : Answered) (after : List ℕ) → g ≡ Unfit → Answers (refusedEarly st) r (l .reply) after → Stood s p l (after-act r after) r
     unfolding heard
-    stood-unfit r after e k = stood-settled [] (refusedEarly st) (buffers (l .image) stored after) r still-long (heard-as Unfit e) k (still [] refl)
+    stood-unfit r after e k =
+        idle (k .act) (stood-settled [] (refusedEarly st) (buffers (l .image) stored after) r still-long (heard-as Unfit e) k (still [] refl))
 
-    pub stood-complete : (r : Answered) (im after : List ℕ) → g ≡ Complete
-        → Completes p (answerOf p (l .image) st (st .stage) (take (st .held + 1) stored)) (take (st .held + 1) stored) r (l .image) im (l .reply) after
-        → Stood s p l (buffers im stored after) r
+    pub stood-complete : (r : Answered) (after : List ℕ) → g ≡ Complete
+        → Answers (answerOf p (l .image) st (st .stage) (take (st .held + 1) stored)) r (l .reply) after → Stood s p l (after-act r after) r
     unfolding heard
-    stood-complete r im after e k =
-        let c : Completes p (answerOf p (l .image) st (st .stage) q) q r (l .image) im (l .reply) after =
-        subst (λ (i : List ℕ). Completes p (answerOf p (l .image) st (st .stage) i) i r (l .image) im (l .reply) after) (held-more (l .receive) (st .held) b room) k in
-        stood-settled (infoOf q) (answerOf p (l .image) st (st .stage) q) (buffers im stored after) r still-long (heard-as Complete e) (c .answers) (c .image)
+    stood-complete r after e k =
+        let same : take (st .held + 1) stored ≡ q = held-more (l .receive) (st .held) b room in
+        let a : Answer = answerOf p (l .image) st (st .stage) q in
+        let told : Answers a r (l .reply) after = subst (λ (i : List ℕ). Answers (answerOf p (l .image) st (st .stage) i) r (l .reply) after) same k in
+        stood-settled (infoOf q) a (after-act r after) r still-long (heard-as Complete e) told (performed-as p (l .image) (told .act) (ap infoOf same) refl)

@@ -16,10 +16,10 @@ use Rattle.state.specs.declared.Stage.{Stage}
 use Rattle.state.specs.declared.Stage.the-variants.{Setting, Authentication, Command, Writing, Reading}
 use Rattle.state.specs.Awaits.{heldFits}
 use Rattle.state.specs.Fit.{Fit}
+use Rattle.flash.specs.declared.Act.{Act}
 use Rattle.flash.specs.Acts.{performed}
-use Rattle.answer.specs.Answer.{Answer, Answers}
 use Rattle.answer.specs.declared.Answered.{Answered}
-use Rattle.device_calls.specs.Calls.{Lent}
+use Rattle.device_calls.specs.Calls.{Lent, buffers}
 use Rattle.device_steps.specs.Step.{Step}
 
 -- a range's addresses have 32 bits
@@ -30,12 +30,11 @@ RangeIn Command = Unit {0}
 RangeIn (Writing r) = r .next + r .left ≤ 4294967296
 RangeIn (Reading r) = r .next + r .left ≤ 4294967296
 
--- what a complete packet q leaves: a is what is defined, and its act is performed
-pub record Completes (p : Profile) (a : Answer) (q : List ℕ) (r : Answered) (im₀ im before after : List ℕ) : Type 0 where
-  pub answers : Answers a r before after
-  pub image : im ≡ performed (areasOf p) (a .act) (infoOf q) im₀
+-- the buffers once an act is performed, with the data bytes of the first n that were received
+abbrev pub acted : Profile → List ℕ → Act → ℕ → List ℕ → List ℕ → Lent
+acted p image act n receive reply = buffers (performed (areasOf p) act (infoOf (take n receive)) image) receive reply
 
--- what a step leaves: s is what is defined
+-- what a step leaves, its act performed: s is what is defined
 pub record Stood (s : Step) (p : Profile) (before after : Lent) (r : Answered) : Type 0 where
   pub state : r .state ≡ s .machine .state
   pub image : after .image ≡ s .machine .image

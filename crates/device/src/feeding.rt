@@ -1,23 +1,18 @@
 // A delivery: bytes that only add to a packet at once, the others one by one.
 ghost use mathlib.Core.Path.{_≡_};
-ghost use Prim.Native.Nat.{_+_, _≤_};
-ghost use Rattle.profile.specs.Areas.{areasOf};
+ghost use Prim.Native.Nat.{_+_};
 ghost use Rattle.profile_rules.specs.Rules.{Accepted as AcceptedProfile};
 ghost use Rattle.packet.specs.Frame.{Roomy};
-ghost use Rattle.packet_fields.specs.Fields.{infoOf};
 ghost use Rattle.flash.specs.declared.Act.the-variants.{Nothing};
-ghost use Rattle.flash.specs.Acts.{performed};
 ghost use Rattle.state.specs.declared.Awaited.the-variants.{Packet};
 ghost use Rattle.state.specs.Awaits.{awaitsOf};
 ghost use Rattle.state.specs.State.{withHeld};
 ghost use Rattle.answer.specs.Answer.{Answers};
-ghost use Rattle.answer_command.specs.Grants.{answerCommand};
-ghost use Rattle.answer_transfer.specs.Transfers.{answerWrite};
 ghost use Rattle.device_calls.specs.Calls.{buffers};
 ghost use Rattle.device_calls.specs.Ready.{Ready};
 ghost use Rattle.device_steps.specs.Step.{machineOf, earlyOf, refusedEarly, answerOf, stepOf};
 ghost use Rattle.device_steps.specs.Feed.{feedOf};
-ghost use Rattle.device.specs.Steps.{RangeIn, Completes, Stood, Holding, Added};
+ghost use Rattle.device.specs.Steps.{RangeIn, acted, Stood, Holding, Added};
 ghost use Rattle.device.specs.Post.{Ran};
 use crate::Fed;
 use crate::Refusal;
@@ -34,7 +29,6 @@ use packet::Progress;
 use packet_gather::gather;
 use profile::Profile;
 use state::Awaited;
-use state::Range;
 use state::Stage;
 use state::State;
 use state::awaits;
@@ -85,68 +79,17 @@ fn refuse_early(state: State, reply: &mut [u8]) -> Answered
     )
 }
 
-// The act of an answer, with the packet's data bytes. No other line of the device changes the flash.
-fn act_on(image: &mut [u8], profile: Profile, act: Act, packet: &[u8])
-    ensures { λ _. ⌜ now (image .exit) ≡ performed (areasOf profile) act (infoOf (now (packet .entry))) (now (image .entry)) ⌝ }
-{
-    flash::perform(image, profile, act, packet_fields::info(packet));
-}
-
-// A command: it is answered, and then its act is performed.
-fn obey(
-    profile: Profile,
-    image: &mut [u8],
-    state: State,
-    packet: &[u8],
-    reply: &mut [u8],
-) -> Answered
-    requires { ⌜ AcceptedProfile profile × Roomy (now reply) ⌝ }
-    ensures { λ r. ⌜ Completes profile (answerCommand profile (now (image .entry)) state (now (packet .entry))) (now (packet .entry)) r
-        (now (image .entry)) (now (image .exit)) (now (reply .entry)) (now (reply .exit)) ⌝ }
-{
-    let answered = answer_command(profile, image, state, packet, reply);
-    let act = answered.act;
-    act_on(image, profile, act, packet);
-    answered
-}
-
-// Write data: likewise.
-fn take_data(
-    profile: Profile,
-    image: &mut [u8],
-    state: State,
-    range: Range,
-    packet: &[u8],
-    reply: &mut [u8],
-) -> Answered
-    requires { ⌜ (range .next + range .left ≤ 4294967296) × Roomy (now reply) ⌝ }
-    ensures { λ r. ⌜ Completes profile (answerWrite profile (now (image .entry)) state range (now (packet .entry))) (now (packet .entry)) r
-        (now (image .entry)) (now (image .exit)) (now (reply .entry)) (now (reply .exit)) ⌝ }
-{
-    let answered = answer_write(profile, image, state, range, packet, reply);
-    let store = answered.act;
-    act_on(image, profile, store, packet);
-    answered
-}
-
-// A complete packet. Setting awaits none, and a read has no act.
-fn complete(
-    profile: Profile,
-    image: &mut [u8],
-    state: State,
-    packet: &[u8],
-    reply: &mut [u8],
-) -> Answered
+// What answers a complete packet. Setting awaits none.
+fn decide(profile: Profile, image: &[u8], state: State, packet: &[u8], reply: &mut [u8]) -> Answered
     requires { ⌜ AcceptedProfile profile × RangeIn (state .stage) × Roomy (now reply) ⌝ }
-    ensures { λ r. ⌜ Completes profile (answerOf profile (now (image .entry)) state (state .stage) (now (packet .entry))) (now (packet .entry)) r
-        (now (image .entry)) (now (image .exit)) (now (reply .entry)) (now (reply .exit)) ⌝ }
+    ensures { λ r. ⌜ Answers (answerOf profile (now (image .entry)) state (state .stage) (now (packet .entry))) r (now (reply .entry)) (now (reply .exit)) ⌝ }
 {
     let stage = state.stage;
     match stage {
-        Stage::Setting(_) => obey(profile, image, state, packet, reply),
-        Stage::Authentication => obey(profile, image, state, packet, reply),
-        Stage::Command => obey(profile, image, state, packet, reply),
-        Stage::Writing(range) => take_data(profile, image, state, range, packet, reply),
+        Stage::Setting(_) => answer_command(profile, image, state, packet, reply),
+        Stage::Authentication => answer_command(profile, image, state, packet, reply),
+        Stage::Command => answer_command(profile, image, state, packet, reply),
+        Stage::Writing(range) => answer_write(profile, image, state, range, packet, reply),
         Stage::Reading(range) => answer_next(profile, image, state, range, packet, reply),
     }
 }
@@ -165,7 +108,7 @@ fn holding(state: State, held: usize) -> Answered
 // A byte where a packet is awaited.
 fn listen(
     profile: Profile,
-    image: &mut [u8],
+    image: &[u8],
     state: State,
     kind: Kind,
     receive: &mut [u8],
@@ -174,7 +117,7 @@ fn listen(
 ) -> Answered
     requires { ⌜ Ready profile state (buffers (now image) (now receive) (now reply)) × (awaitsOf (state .stage) ≡ Packet kind) ⌝ }
     ensures { λ r. ⌜ Stood (stepOf profile (machineOf state (buffers (now (image .entry)) (now (receive .entry)) (now (reply .entry)))) byte) profile
-        (buffers (now (image .entry)) (now (receive .entry)) (now (reply .entry))) (buffers (now (image .exit)) (now (receive .exit)) (now (reply .exit))) r ⌝ }
+        (buffers (now (image .entry)) (now (receive .entry)) (now (reply .entry))) (acted profile (now (image .entry)) (r .act) (state .held + 1) (now (receive .exit)) (now (reply .exit))) r ⌝ }
 {
     let at = state.held;
     receive[at] = byte;
@@ -184,15 +127,15 @@ fn listen(
         Progress::Astray => holding(state, 0),
         Progress::Partial => holding(state, n),
         Progress::Unfit => refuse_early(state, reply),
-        Progress::Complete => complete(profile, image, state, &receive[..n], reply),
+        Progress::Complete => decide(profile, image, state, &receive[..n], reply),
         Progress::Excess => holding(state, 0),
     }
 }
 
-// One byte.
+// One byte: what it is answered, and the act that is still to be performed.
 fn step(
     profile: Profile,
-    image: &mut [u8],
+    image: &[u8],
     state: State,
     receive: &mut [u8],
     reply: &mut [u8],
@@ -200,7 +143,7 @@ fn step(
 ) -> Answered
     requires { ⌜ Ready profile state (buffers (now image) (now receive) (now reply)) ⌝ }
     ensures { λ r. ⌜ Stood (stepOf profile (machineOf state (buffers (now (image .entry)) (now (receive .entry)) (now (reply .entry)))) byte) profile
-        (buffers (now (image .entry)) (now (receive .entry)) (now (reply .entry))) (buffers (now (image .exit)) (now (receive .exit)) (now (reply .exit))) r ⌝ }
+        (buffers (now (image .entry)) (now (receive .entry)) (now (reply .entry))) (acted profile (now (image .entry)) (r .act) (state .held + 1) (now (receive .exit)) (now (reply .exit))) r ⌝ }
 {
     let stage = state.stage;
     let awaited = awaits(stage);
@@ -222,7 +165,8 @@ fn add(stage: Stage, held: usize, receive: &mut [u8], input: &[u8]) -> usize
     }
 }
 
-// A delivery byte by byte: behind each byte those that only add to a packet at once.
+// A delivery byte by byte: behind each byte those that only add to a packet at once. No other line of the device than that with
+// `perform` changes the flash.
 fn turns(
     profile: Profile,
     image: &mut [u8],
@@ -239,7 +183,10 @@ fn turns(
     let mut i = 0;
     let mut count = 0;
     while i < input.len() {
+        let n = now_state.held + 1;
         let s = step(profile, image, now_state, receive, reply, input[i]);
+        let act = s.act;
+        flash::perform(image, profile, act, packet_fields::info(&receive[..n]));
         now_state = s.state;
         i += 1;
         count = s.count;

@@ -7,13 +7,12 @@ use Rattle.device.proofs.feeding.step.Statement.{statement}
 use Rattle.device.proofs.feeding.step.Tie as tie
 
 listen-requires : tie.Need-listen-requires
-listen-requires c κs = (c .before .before .before .before .before .before .before .before .before .before .pre, sym (c .before .before .before .before .before .before .awaits .ensures) ∙ c .before .before .before .before .awaited2 .given .1)
+listen-requires c κs = (c .before .before .before .before .before .before .before .before .before .pre, sym (c .before .before .before .before .before .awaits .ensures) ∙ c .before .before .before .awaited2 .given .1)
 
 returns : tie.Need-returns
-returns c = stood-waking (c .before .before .before .before .before .before .before .before .before .before .before .before .args .profile) (c .before .before .before .before .before .before .before .before .before .before .before .before .args .state) (buffers (c .before .before .before .before .before .before .before .before .before .before .before .before .args .image .now) (c .before .before .before .before .before .before .before .before .before .before .before .before .args .receive .now) (c .before .before .before .before .before .before .before .before .before .before .before .before .args .reply .now)) (c .before .before .before .before .before .before .before .before .before .before .before .before .args .byte) (c .before .before .before .before .before .before .before .before .before .before .before .before .pre) _ _ _ (sym (c .before .before .before .before .before .before .before .before .awaits .ensures) ∙ c .before .before .before .before .before .before .awaited .given .1) (c .before .before .wake .ensures)
+returns c = stood-waking (c .before .before .before .before .before .before .before .before .before .before .before .args .profile) (c .before .before .before .before .before .before .before .before .before .before .before .args .state) (buffers (c .before .before .before .before .before .before .before .before .before .before .before .args .image .now) (c .before .before .before .before .before .before .before .before .before .before .before .args .receive .now) (c .before .before .before .before .before .before .before .before .before .before .before .args .reply .now)) (c .before .before .before .before .before .before .before .before .before .before .before .args .byte) (c .before .before .before .before .before .before .before .before .before .before .before .pre) _ _ _ (sym (c .before .before .before .before .before .before .before .awaits .ensures) ∙ c .before .before .before .before .before .awaited .given .1) (c .before .before .wake .ensures)
 
 pub step-spec : {M : Type 1} → statement M
 step-spec =
     tie.close (tie.spec (λ c κs. search needs) (λ c. search needs) (λ c κs. search needs) (λ c. search needs)
-    listen-requires (λ c. search needs) (λ c. search needs) returns (λ c. search needs) (λ c. search needs)
-    (λ c. search needs) (λ c. search needs))
+    listen-requires (λ c. search needs) returns (λ c. search needs) (λ c. search needs) (λ c. search needs))
