@@ -218,3 +218,76 @@ def answers(text, order, change):
         if need:
             blocks[number] = change(need[2], block)
     return "".join(blocks) + "".join(parts) + text[spot if terms else start:]
+
+
+LONG, WIDTH = 300, 150  # an answer with a line of more signs is set anew, in lines of so many
+ANSWER = re.compile(r"^(?P<name>\S+) : tie\.Need-.*(?:\nunfolding.*)?\n(?P=name)(?: [^\s=]+)* =\s", re.M)
+PATH = re.compile(r"(?<![^\s(,])c((?: \.before)+) \.([^\s(),.]+)")
+
+
+def parts(term, depth):
+    """A term cut at its spaces that stand in no more than `depth` parentheses. A path stays whole, and a sign of operation
+    goes with what follows it."""
+    found, level, fresh = [], 0, True
+    for sign in term:
+        level += (sign in "({") - (sign in ")}")
+        if sign == " " and level <= depth:
+            fresh = True
+        elif fresh and found and (sign == "." or re.fullmatch(r"[^\w\s(){}.,_?]+|=|:", found[-1].rpartition(" ")[2])):
+            found[-1], fresh = f"{found[-1]} {sign}", False
+        else:
+            found = [*found, sign] if fresh else [*found[:-1], found[-1] + sign]
+            fresh = False
+    return found
+
+
+def in_lines(term):
+    """A term set in lines, broken where few parentheses are open."""
+    rows = []
+    for outer in parts(term, 0):
+        for part in parts(outer, 1) if len(outer) > WIDTH else [outer]:
+            if rows and (len(rows[-1]) + 1 + len(part) <= WIDTH or part == "in"):
+                rows[-1] += " " + part
+            else:
+                rows.append(part)
+    return rows
+
+
+def first_lets(term):
+    """The lets that a term begins with, and the term that they are for."""
+    found = []
+    while term.startswith("let "):
+        level = deep = 0
+        for word in re.finditer(r"[(){}]|(?<![^\s(])let(?= )|(?<= )in(?= )", term):
+            level += (word[0] in "({") - (word[0] in ")}")
+            deep += 0 if level else {"let": 1, "in": -1}.get(word[0], 0)
+            if not deep:
+                break
+        found.append(term[:word.end()])
+        term = term[word.end() + 1:]
+    return found, term
+
+
+def named(text):
+    """The proof with the paths that a long answer repeats named by lets, and how many answers were long. Arguments are `a`,
+    any other thing has its own name, unless that name has a meaning there."""
+    taken = set(re.findall(r"[^\s{},;]+", " ".join(re.findall(r"^use [^\n{]*\{([^}]*)\}", text, re.M))))
+    taken |= set(re.findall(r"^(\S+) :", text, re.M))
+    blocks, count = re.split(r"(\n\n+)", text), 0
+    for number, block in enumerate(blocks):
+        head = ANSWER.match(block)
+        if not head or "{\n" in block or max(map(len, block.split("\n"))) <= LONG:
+            continue
+        term, lets = re.sub(r"\s+", " ", block[head.end():]).strip(), []
+        uses = collections.Counter((found[1], found[2]) for found in PATH.finditer(term))
+        for (way, thing), times in sorted(uses.items(), key=lambda one: (-len(one[0][0]), one[0][1])):
+            name, whole = "a" if thing == "args" else thing, f"c{way} .{thing}"
+            word = r"(?<![\w.'-])%s(?![\w'-])"
+            if times > 1 and way != " .before" and name not in taken and not re.search(word % re.escape(name), term):
+                term = re.sub(word % re.escape(whole), name, term)
+                lets.append(f"let {name} = {whole} in")
+        more, term = first_lets(term)
+        rows = lets + [row for one in [*more, term] for row in in_lines(one)]
+        blocks[number] = block[:head.end()].rstrip() + "".join(f"\n    {row}" for row in rows) + "\n" * block.endswith("\n")
+        count += 1
+    return "".join(blocks), count

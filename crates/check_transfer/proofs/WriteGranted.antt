@@ -20,7 +20,7 @@ use Rattle.flash_blank.specs.Blank.{searched}
 use Rattle.state.specs.declared.Range.{Range}
 use Rattle.packet_fields.specs.Fields.{codeAt, infoCount}
 use Rattle.check_transfer.proofs.TransferLaws.{amount-code, amount-any, amount-most}
-use Rattle.check_transfer.specs.Transfer.{isDirty, amountChecks, unitBefore, unitsChecks, targetChecks, writeChecks, asksNext, requestChecks, nextChecks}
+use Rattle.check_transfer.specs.Transfer.{isDirty, amountChecks, unitBefore, unitsChecks, targetChecks, writeChecks, asksNext, nextChecks}
 
 is-clean : (s : Search) → isDirty s ≡ false → s ≡ Clean
 is-clean Clean e = refl
@@ -72,11 +72,11 @@ module _ (areas : List Area) (image : List ℕ) (r : Range) (q : List ℕ) (gran
 module _ (q : List ℕ) (granted : firstFault (nextChecks q) ≡ none) where
   pub next-ends : firstFault (endingChecks q) ≡ none
   unfolding nextChecks
-  next-ends = clear-left (endingChecks q) (requestChecks q) granted
+  next-ends = clear-left (endingChecks q) _ granted
 
   pub next-asks : asksNext q ≡ true
-  unfolding nextChecks requestChecks NoneApplies
-  next-asks = not-false (asksNext q) (clear (requestChecks q) (clear-right (endingChecks q) (requestChecks q) granted) .0)
+  unfolding nextChecks NoneApplies
+  next-asks = not-false (asksNext q) (clear _ (clear-right (endingChecks q) _ granted) .0)
 
   pub next-code : codeAt q ≡ 0x15
   unfolding asksNext

@@ -54,8 +54,5 @@ writeChecks areas image r q = endingChecks q ++ targetChecks areas image r q
 unfoldable pub asksNext : List ℕ → Bool
 asksNext q = eqb (codeAt q) 0x15 && (eqb (infoCount q) 1 && eqb (getD q 4 0) 0x00)
 
-unfoldable pub requestChecks : List ℕ → List (Check Reason)
-requestChecks q = (not (asksNext q) gives NotNextRequest) ∷ []
-
 unfoldable pub nextChecks : List ℕ → List (Check Reason)
-nextChecks q = endingChecks q ++ requestChecks q
+nextChecks q = endingChecks q ++ (not (asksNext q) gives NotNextRequest) ∷ []

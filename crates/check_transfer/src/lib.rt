@@ -1,9 +1,12 @@
 // The checks of a packet in a write and in a read, in the paper's order.
+ghost use mathlib.Core.Bool.{not};
+ghost use mathlib.Core.List.{[], _∷_};
 ghost use mathlib.Core.Path.{_≡_};
 ghost use Prim.Native.Nat.{_+_, _≤_};
-ghost use Rattle.verdict.specs.Check.{firstFault, verdictOf};
+ghost use Rattle.verdict.specs.Check.{_gives_, firstFault, verdictOf};
+ghost use Rattle.verdict.specs.declared.Reason.the-variants.{NotNextRequest};
 ghost use Rattle.profile.specs.Areas.{areasOf};
-ghost use Rattle.check_transfer.specs.Transfer.{amountChecks, unitBefore, unitsChecks, targetChecks, writeChecks, asksNext, requestChecks, nextChecks};
+ghost use Rattle.check_transfer.specs.Transfer.{amountChecks, unitBefore, unitsChecks, targetChecks, writeChecks, asksNext, nextChecks};
 use flash_blank::Search;
 use packet_fields::byte_at;
 use packet_fields::info_count;
@@ -84,7 +87,7 @@ fn asks_next(packet: &[u8]) -> bool
 }
 
 fn check_request(packet: &[u8]) -> Verdict
-    ensures { λ r. ⌜ r ≡ verdictOf (firstFault (requestChecks (now (packet .entry)))) ⌝ }
+    ensures { λ r. ⌜ r ≡ verdictOf (firstFault ((not (asksNext (now (packet .entry))) gives NotNextRequest) ∷ [])) ⌝ }
 {
     if !asks_next(packet) {
         return Verdict::Refused(Reason::NotNextRequest);

@@ -38,13 +38,12 @@ module _ (p : Profile) (before : Lent) (input : List ℕ) (st : State) (ready : 
       let d : Delivery = feedOf p (machineOf st before) input in
       let f : FitMachine p (d .machine) = feed-fits p (ready .profile) (machineOf st before) input (machine-fits p st before (ready .fit)) in
       let w : Roomy rc = rw b (ready .receive) in
-      let h : take (d .machine .state .held) rc ≡ d .machine .held = ap (λ (s : State). take (s .held) rc) (sym (ran .state)) ∙ ran .held in
       record {
         profile = ready .profile;
         image = ap length (ran .image) ∙ feed-length p (machineOf st before) input ∙ ready .image;
         receive = w;
         reply = rw c (ready .reply);
-        fit = subst (λ (s : State). Fit p s rc) (sym (ran .state)) (fits-again p (d .machine) rc f w h);
+        fit = subst (λ (s : State). Fit p s rc) (sym (ap (λ (x : Fed). x .state) (ran .is))) (fits-again p (d .machine) rc f w (ran .held));
       }
 
   pub accepted-again : (after : Lent) (r : Fed) → Ran (feedOf p (machineOf st before) input) input before after r

@@ -62,6 +62,11 @@ turned-none p l bs st r =
       rest = reached-start p (machineOf st l) bs;
     }
 
+-- what an accepted feed answers, by its parts
+fed-is : {st st′ : State} {i i′ n n′ : ℕ} → st ≡ st′ → i ≡ i′ → n ≡ n′
+    → _≡_ {A = Fed} (record { refusal = Accepted; state = st; consumed = i; count = n }) (record { refusal = Accepted; state = st′; consumed = i′; count = n′ })
+fed-is a b c = rw (a, b, c) refl
+
 module _ {p : Profile} {l₀ : Lent} {bs : List ℕ} {st₀ : State} {l : Lent} {st : State} {i : ℕ} (t : Turned p l₀ bs st₀ l st i) where
   abbrev m : Machine
   m = machineOf st l
@@ -82,12 +87,9 @@ module _ {p : Profile} {l₀ : Lent} {bs : List ℕ} {st₀ : State} {l : Lent} 
       subst (λ (x : Delivery). Ran x bs l₀ l (record { refusal = Accepted; state = st; consumed = i; count = count }))
       (sym (reached-end p start bs i m (t .rest) h))
       (record {
-        refusal = refl;
-        state = refl;
+        is = fed-is refl refl z;
         image = refl;
         held = refl;
-        consumed = refl;
-        count = z;
         reply = t .reply ∙ front-nothing (l₀ .reply);
         idle = λ e. t .untouched (let w : i ≤ length bs = t .within in omega arith);
       })
@@ -190,12 +192,9 @@ module _ {p : Profile} {l₀ : Lent} {bs : List ℕ} {st₀ : State} {l : Lent} 
       subst (λ (x : Delivery). Ran x bs l₀ after (record { refusal = Accepted; state = f .state; consumed = i + f .consumed; count = f .count }))
       (sym (t .rest))
       (record {
-        refusal = refl;
-        state = k .state;
+        is = fed-is (ap (λ (x : Fed). x .state) (k .is)) (let c = ap (λ (x : Fed). x .consumed) (k .is) in omega arith) (ap (λ (x : Fed). x .count) (k .is));
         image = k .image;
         held = k .held;
-        consumed = let c = k .consumed in omega arith;
-        count = k .count;
         reply = k .reply ∙ ap (front (feedOf p m (drop i bs) .reply)) (t .reply);
         idle = λ e. absurd (omega arith);
       })
@@ -206,7 +205,7 @@ module _ {p : Profile} {l₀ : Lent} {bs : List ℕ} {st₀ : State} {l : Lent} 
   rest-fits k =
       let rest : List ℕ = take (length bs - i) (drop i bs) in
       let whole : length bs - i ≤ length (drop i bs) = omega (arith, length-drop i bs) in
-      omega (arith, k .consumed, consumed-most p m rest, length-take-le (length bs - i) (drop i bs) whole, t .within)
+      omega (arith, ap (λ (x : Fed). x .consumed) (k .is), consumed-most p m rest, length-take-le (length bs - i) (drop i bs) whole, t .within)
 
   module _ {r : Answered} {after : Lent} (h : i < length bs) (left : Stood s p l after r) where
     -- a byte without a reply
@@ -234,12 +233,9 @@ module _ {p : Profile} {l₀ : Lent} {bs : List ℕ} {st₀ : State} {l : Lent} 
         subst (λ (x : Delivery). Ran x bs l₀ after (record { refusal = Accepted; state = r .state; consumed = i + 1; count = r .count }))
         (sym (reached-reply p start bs i m (t .rest) h some))
         (record {
-          refusal = refl;
-          state = left .state;
+          is = fed-is (left .state) (sym k) (left .count);
           image = left .image;
-          held = left .held;
-          consumed = sym k;
-          count = left .count;
+          held = ap (λ (x : State). take (x .held) (after .receive)) (sym (left .state)) ∙ left .held;
           reply = left .reply ∙ ap (front (s .reply)) (t .reply);
           idle = λ e. absurd (omega arith);
         })

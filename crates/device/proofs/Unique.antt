@@ -32,21 +32,17 @@ pub record Same (after after′ : Lent) (r r′ : Fed) : Type 0 where
   pub held : take (r .state .held) (after .receive) ≡ take (r′ .state .held) (after′ .receive)
   pub reply : after .reply ≡ after′ .reply
 
-fed-eq : {a b : Fed} → a .refusal ≡ b .refusal → a .state ≡ b .state → a .consumed ≡ b .consumed → a .count ≡ b .count → a ≡ b
-fed-eq {a} {b} p q r s =
-    ap (λ (x : Refusal). record { refusal = x; state = a .state; consumed = a .consumed; count = a .count }) p
-    ∙ ap (λ (x : State). record { refusal = b .refusal; state = x; consumed = a .consumed; count = a .count }) q
-    ∙ ap (λ (x : ℕ). record { refusal = b .refusal; state = b .state; consumed = x; count = a .count }) r
-    ∙ ap (λ (x : ℕ). record { refusal = b .refusal; state = b .state; consumed = b .consumed; count = x }) s
+held-is : {r r′ : Fed} → r ≡ r′ → (rc : List ℕ) → take (r .state .held) rc ≡ take (r′ .state .held) rc
+held-is e rc = ap (λ (x : Fed). take (x .state .held) rc) e
 
 -- feeding, for the same state and buffers at entry
 module _ (d : Delivery) (input : List ℕ) (st : State) (before after after′ : Lent) (r r′ : Fed) where
   pub fed-once : (refusal : Refusal) → FedBy refusal d input st before after r → FedBy refusal d input st before after′ r′ → Same after after′ r r′
   fed-once Accepted a b =
       record {
-        result = fed-eq (a .refusal ∙ sym (b .refusal)) (a .state ∙ sym (b .state)) (a .consumed ∙ sym (b .consumed)) (a .count ∙ sym (b .count));
+        result = a .is ∙ sym (b .is);
         image = a .image ∙ sym (b .image);
-        held = a .held ∙ sym (b .held);
+        held = held-is (a .is) (after .receive) ∙ a .held ∙ sym (held-is (b .is) (after′ .receive) ∙ b .held);
         reply = a .reply ∙ sym (b .reply);
       }
   fed-once (By row) a b =
@@ -54,7 +50,7 @@ module _ (d : Delivery) (input : List ℕ) (st : State) (before after after′ :
       record {
         result = a .is ∙ sym (b .is);
         image = ap (λ (l : Lent). l .image) same;
-        held = ap (λ (x : Fed). take (x .state .held) (after .receive)) (a .is ∙ sym (b .is)) ∙ ap (λ (l : Lent). take (r′ .state .held) (l .receive)) same;
+        held = held-is (a .is ∙ sym (b .is)) (after .receive) ∙ ap (λ (l : Lent). take (r′ .state .held) (l .receive)) same;
         reply = ap (λ (l : Lent). l .reply) same;
       }
 

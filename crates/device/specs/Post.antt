@@ -16,12 +16,9 @@ use Rattle.device.specs.declared.Fed.{Fed}
 
 -- what an accepted feed leaves: d is what is defined; empty input leaves the receive buffer too
 pub record Ran (d : Delivery) (input : List ℕ) (before after : Lent) (r : Fed) : Type 0 where
-  pub refusal : r .refusal ≡ Accepted
-  pub state : r .state ≡ d .machine .state
+  pub is : r ≡ record { refusal = Accepted; state = d .machine .state; consumed = d .consumed; count = length (d .reply) }
   pub image : after .image ≡ d .machine .image
-  pub held : take (r .state .held) (after .receive) ≡ d .machine .held
-  pub consumed : r .consumed ≡ d .consumed
-  pub count : r .count ≡ length (d .reply)
+  pub held : take (d .machine .state .held) (after .receive) ≡ d .machine .held
   pub reply : after .reply ≡ front (d .reply) (before .reply)
   pub idle : length input ≡ 0 → after .receive ≡ before .receive
 

@@ -21,7 +21,4 @@ onward s rest =
 
 unfoldable pub feedOf : Profile → Machine → List ℕ → Delivery
 feedOf p m [] = record { machine = m; reply = []; consumed = 0 }
-feedOf p m (b ∷ bs) =
-    let s = stepOf p m b in
-    let rest = feedOf p (s .machine) bs in
-    onward s rest
+feedOf p m (b ∷ bs) = onward (stepOf p m b) (feedOf p (stepOf p m b .machine) bs)

@@ -95,14 +95,14 @@ module _ (p : Profile) (st : State) (input : List ℕ) (before after : Lent) (fe
   by : (row : Refusal) (d : Delivery) → FedBy row d input st before after fed
       → FedBytes row d input (beside before state₀) (beside after state) (numbers number (fed .consumed) (fed .count))
   by Accepted d f =
-      let z : number ≡ 0 = m ∙ ap numberOf (f .refusal) in
+      let z : number ≡ 0 = m ∙ ap (λ (x : Fed). numberOf (x .refusal)) (f .is) in
       let t = eq-eqb (length state₀) stateLength h in
       let over : stateOver (fed .state) state₀ ≡ stateBytes (fed .state) = simp t in
       record {
-        is = numbers-are z (f .consumed) (f .count);
-        state = w ∙ ap (λ (k : ℕ). cond (eqb k 0 || false) (stateOver (fed .state) state₀) state₀) z ∙ over ∙ ap stateBytes (f .state);
+        is = numbers-are z (ap (λ (x : Fed). x .consumed) (f .is)) (ap (λ (x : Fed). x .count) (f .is));
+        state = w ∙ ap (λ (k : ℕ). cond (eqb k 0 || false) (stateOver (fed .state) state₀) state₀) z ∙ over ∙ ap (λ (x : Fed). stateBytes (x .state)) (f .is);
         image = f .image;
-        held = ap (λ (x : State). take (x .held) (after .receive)) (sym (f .state)) ∙ f .held;
+        held = f .held;
         reply = f .reply;
         idle = f .idle;
       }

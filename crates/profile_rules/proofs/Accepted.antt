@@ -17,7 +17,7 @@ use Rattle.profile.specs.Areas.{areasOf, noArea, sizeOf, inside}
 use Rattle.profile.specs.Places.{placeFrom}
 use Rattle.profile.proofs.Table.{inside-bounds}
 use Rattle.profile_rules.specs.declared.Acceptance.the-variants.{Acceptable}
-use Rattle.profile_rules.specs.Rules.{acceptanceOf, headChecks, areaChecks, tableChecks, tailChecks, countedChecks, profileChecks, Accepted}
+use Rattle.profile_rules.specs.Rules.{acceptanceOf, headChecks, areaChecks, tableChecks, tailChecks, profileChecks, Accepted}
 use Rattle.profile_rules.specs.Sound.{SoundArea, Ascending, Sound}
 use Rattle.profile_rules.proofs.Laws.{acceptable-none}
 
@@ -80,7 +80,7 @@ table-clear i free (a ∷ more) s =
 
 -- the whole profile
 pub sound : (p : Profile) → Accepted p → Sound p
-unfolding Accepted profileChecks headChecks tailChecks countedChecks NoneApplies
+unfolding Accepted profileChecks headChecks tailChecks NoneApplies
 sound p e =
     let table = tableChecks 0 0 (areasOf p) in
     let rest = clear-right (headChecks p) (table ++ tailChecks p) e in
@@ -99,7 +99,7 @@ sound p e =
     }
 
 pub accepted : (p : Profile) → Sound p → Accepted p
-unfolding Accepted profileChecks headChecks tailChecks countedChecks NoneApplies
+unfolding Accepted profileChecks headChecks tailChecks NoneApplies
 accepted p s =
     let table = tableChecks 0 0 (areasOf p) in
     let head = grants (headChecks p) (le-ltb _ _ (s .some-area), (le-ltb _ _ (s .at-most-eight), (le-ltb _ _ (s .has-clock), (le-ltb _ _ (s .has-top-rate), tt)))) in

@@ -9,7 +9,7 @@ use Rattle.profile.specs.Bench.{bench, benchUser, benchConfig, onBench, user000
 use Rattle.profile_rules.specs.declared.Acceptance.{Acceptance}
 use Rattle.profile_rules.specs.declared.Acceptance.the-variants.{Acceptable, Breaks}
 use Rattle.profile_rules.specs.declared.Rule.the-variants.{AreaCount, NotAbove, ConfigCount}
-use Rattle.profile_rules.specs.Rules.{acceptanceOf, profileChecks, headChecks, areaChecks, tableChecks, tailChecks, countedChecks, unitFits, config, smallConfig}
+use Rattle.profile_rules.specs.Rules.{acceptanceOf, profileChecks, headChecks, areaChecks, tableChecks, tailChecks, unitFits, config, smallConfig}
 
 pub record Example : Type 0 where
   pub profile : Profile
@@ -27,5 +27,5 @@ examples =
     ∷ []
 
 pub examples-hold : map (λ (e : Example). acceptanceOf (firstFault (profileChecks (e .profile)))) examples ≡ map (λ (e : Example). e .answer) examples
-unfolding firstFault profileChecks headChecks areaChecks tableChecks tailChecks countedChecks unitFits config smallConfig entries tally
+unfolding firstFault profileChecks headChecks areaChecks tableChecks tailChecks unitFits config smallConfig entries tally
 examples-hold = refl

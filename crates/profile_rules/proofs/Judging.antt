@@ -12,8 +12,8 @@ use Rattle.profile_rules.specs.declared.Acceptance.the-variants.{Accepta
 use Rattle.profile_rules.specs.declared.Tallies.{Tallies}
 use Rattle.profile_rules.specs.declared.Surveyed.{Surveyed}
 use Rattle.profile_rules.specs.declared.Judged.{Judged}
-use Rattle.profile_rules.specs.Rules.{acceptanceOf, config, smallConfig, tableChecks, talliesOf, countedChecks, tailChecks, profileChecks, Accepted}
-use Rattle.profile_rules.specs.Judged.{surveyedAs, surveyOf, judgedAs, judgedOf}
+use Rattle.profile_rules.specs.Rules.{acceptanceOf, config, smallConfig, tableChecks, tailChecks, profileChecks, Accepted}
+use Rattle.profile_rules.specs.Judged.{talliesOf, surveyedAs, surveyOf, judgedAs, judgedOf}
 use Rattle.profile_rules.proofs.Laws.{acceptable-none, goes-on, stops}
 
 -- what a walk answers that comes to the table's end
@@ -38,16 +38,13 @@ module _ (areas : List Area) (r : Surveyed) (e : r ≡ surveyOf areas) where
       let fine = acceptable-none (firstFault (tableChecks 0 0 areas)) (sym found-is ∙ h) in
       ap (λ (s : Surveyed). s .tallies) e ∙ ap (λ (f : Option Rule). surveyedAs f (talliesOf areas) .tallies) fine
 
--- the table's first fault is that of all checks from the table on; where it has none, what was counted decides
+-- the table's first fault is that of all checks from the table on; where it has none, those behind it decide
 module _ (p : Profile) (r : Surveyed) (e : r ≡ surveyOf (areasOf p)) where
   pub breaks-table : (rule : Rule) → r .found ≡ Breaks rule → firstFault (tableChecks 0 0 (areasOf p) ++ tailChecks p) ≡ some rule
   breaks-table rule h = stops (tableChecks 0 0 (areasOf p)) (tailChecks p) rule (sym (found-is (areasOf p) r e) ∙ h)
 
-  pub tail-decides : r .found ≡ Acceptable → firstFault (tableChecks 0 0 (areasOf p) ++ tailChecks p) ≡ firstFault (countedChecks (p .window) (r .tallies))
-  unfolding tailChecks
-  tail-decides h =
-      goes-on (tableChecks 0 0 (areasOf p)) (tailChecks p) (sym (found-is (areasOf p) r e) ∙ h)
-      ∙ ap (λ (t : Tallies). firstFault (countedChecks (p .window) t)) (sym (tallies-are (areasOf p) r e h))
+  pub tail-decides : r .found ≡ Acceptable → firstFault (tableChecks 0 0 (areasOf p) ++ tailChecks p) ≡ firstFault (tailChecks p)
+  tail-decides h = goes-on (tableChecks 0 0 (areasOf p)) (tailChecks p) (sym (found-is (areasOf p) r e) ∙ h)
 
 -- a judgement by the first fault of all checks
 module _ (f : Option Rule) (n : ℕ) where

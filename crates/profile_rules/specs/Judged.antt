@@ -5,13 +5,17 @@ use Prim.Native.Nat.{ℕ}
 use Rattle.verdict.specs.Check.{firstFault}
 use Rattle.profile.specs.declared.Area.{Area}
 use Rattle.profile.specs.declared.Profile.{Profile}
-use Rattle.profile.specs.Areas.{areasOf, totalOf}
+use Rattle.profile.specs.Areas.{areasOf, tally, totalOf}
 use Rattle.profile_rules.specs.declared.Rule.{Rule}
 use Rattle.profile_rules.specs.declared.Acceptance.the-variants.{Acceptable, Breaks}
 use Rattle.profile_rules.specs.declared.Tallies.{Tallies}
 use Rattle.profile_rules.specs.declared.Surveyed.{Surveyed}
 use Rattle.profile_rules.specs.declared.Judged.{Judged}
-use Rattle.profile_rules.specs.Rules.{acceptanceOf, tableChecks, talliesOf, profileChecks}
+use Rattle.profile_rules.specs.Rules.{acceptanceOf, config, smallConfig, tableChecks, profileChecks}
+
+-- what all areas are counted for
+abbrev pub talliesOf : List Area → Tallies
+talliesOf areas = record { configs = tally config areas; small = tally smallConfig areas; total = totalOf areas }
 
 -- nothing is counted of a table that breaks a rule
 abbrev pub uncountedBy : Rule → Surveyed

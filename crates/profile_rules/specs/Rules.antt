@@ -8,13 +8,11 @@ use lib.Dec.{leb, ltb, eqb}
 use Rattle.verdict.specs.Check.{Check, _gives_, firstFault}
 use Rattle.profile.specs.declared.Area.{Area}
 use Rattle.profile.specs.declared.Profile.{Profile}
-use Rattle.profile.specs.declared.Window.{Window}
 use Rattle.profile.specs.Areas.{areasOf, sizeOf, tally, totalOf}
 use Rattle.profile_rules.specs.declared.Rule.{Rule}
 use Rattle.profile_rules.specs.declared.Rule.the-variants.{AreaCount, NoClock, NoTopRate, Kind, EndsBeforeStart, EndsAtTop, NotAbove, EraseUnit, WriteUnit, LongWriteUnit, ConfigCount, ConfigSize, TooLarge, WindowReversed}
 use Rattle.profile_rules.specs.declared.Acceptance.{Acceptance}
 use Rattle.profile_rules.specs.declared.Acceptance.the-variants.{Acceptable, Breaks}
-use Rattle.profile_rules.specs.declared.Tallies.{Tallies}
 
 -- a unit of 0 is none; any other divides SAD and the area's size
 unfoldable pub unitFits : Area → ℕ → Bool
@@ -51,21 +49,14 @@ config a = cond (eqb (a .koa) 2) 1 0
 unfoldable pub smallConfig : Area → ℕ
 smallConfig a = cond (eqb (a .koa) 2 && ltb (sizeOf a) 16) 1 0
 
--- what all areas are counted for
-abbrev pub talliesOf : List Area → Tallies
-talliesOf areas = record { configs = tally config areas; small = tally smallConfig areas; total = totalOf areas }
-
 -- exactly one area is config, of at least 16 bytes; sizes total at most 16,777,216; low is at most high
-unfoldable pub countedChecks : Window → Tallies → List (Check Rule)
-countedChecks window counted =
-    (not (eqb (counted .configs) 1) gives ConfigCount)
-    ∷ (not (eqb (counted .small) 0) gives ConfigSize)
-    ∷ (ltb 16777216 (counted .total) gives TooLarge)
-    ∷ (ltb (window .high) (window .low) gives WindowReversed)
-    ∷ []
-
 unfoldable pub tailChecks : Profile → List (Check Rule)
-tailChecks p = countedChecks (p .window) (talliesOf (areasOf p))
+tailChecks p =
+    (not (eqb (tally config (areasOf p)) 1) gives ConfigCount)
+    ∷ (not (eqb (tally smallConfig (areasOf p)) 0) gives ConfigSize)
+    ∷ (ltb 16777216 (totalOf (areasOf p)) gives TooLarge)
+    ∷ (ltb (p .window .high) (p .window .low) gives WindowReversed)
+    ∷ []
 
 unfoldable pub profileChecks : Profile → List (Check Rule)
 profileChecks p = headChecks p ++ (tableChecks 0 0 (areasOf p) ++ tailChecks p)

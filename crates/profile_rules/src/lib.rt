@@ -4,11 +4,10 @@ ghost use mathlib.Core.List.{_++_};
 ghost use Prim.Native.Nat.{_≤_, _<_, _+_};
 ghost use Rattle.verdict.specs.Check.{firstFault};
 ghost use Rattle.profile.specs.Areas.{areasOf, totalOf};
-ghost use Rattle.profile_rules.specs.Rules.{unitFits, acceptanceOf, headChecks, areaChecks, tableChecks, config, smallConfig, countedChecks, tailChecks};
-ghost use Rattle.profile_rules.specs.Judged.{uncountedBy, surveyOf, judgedAs, judgedOf};
+ghost use Rattle.profile_rules.specs.Rules.{unitFits, acceptanceOf, headChecks, areaChecks, tableChecks, config, smallConfig, tailChecks};
+ghost use Rattle.profile_rules.specs.Judged.{talliesOf, uncountedBy, surveyOf, judgedAs, judgedOf};
 use profile::Area;
 use profile::Profile;
-use profile::Window;
 
 // One rule for each condition of document 01; those of an area carry its number in the table.
 pub enum Rule {
@@ -189,9 +188,12 @@ fn survey(profile: Profile) -> Surveyed
     }
 }
 
-fn check_tail(window: Window, counted: Tallies) -> Acceptance
-    ensures { λ r. ⌜ r ≡ acceptanceOf (firstFault (countedChecks window counted)) ⌝ }
+// What the table was counted for, and the window.
+fn check_tail(profile: Profile, counted: Tallies) -> Acceptance
+    requires { ⌜ counted ≡ talliesOf (areasOf profile) ⌝ }
+    ensures { λ r. ⌜ r ≡ acceptanceOf (firstFault (tailChecks profile)) ⌝ }
 {
+    let window = profile.window;
     if counted.configs != 1 {
         return Acceptance::Breaks(Rule::ConfigCount);
     }
@@ -219,7 +221,7 @@ fn check_rest(profile: Profile) -> Judged
             total: 0,
         },
         Acceptance::Acceptable => {
-            let tail = check_tail(profile.window, counted);
+            let tail = check_tail(profile, counted);
             match tail {
                 Acceptance::Breaks(late) => Judged {
                     found: Acceptance::Breaks(late),

@@ -74,18 +74,24 @@ module _ {p : Profile} {l₀ : Lent} {bs : List ℕ} {st₀ : State} {l : Lent} 
         subst (λ (x : List ℕ). Ran (feedOf p m x) x l after r) (rest-is bs at)
         (subst (λ (x : Refusal). FedBy x (feedOf p m (take (length bs - at) rest)) (take (length bs - at) rest) st l after r) (ready-rows p st l (t .ready)) fed)
 
+    state : r .state ≡ d .machine .state
+    state = ap (λ (x : Fed). x .state) (ran .is)
+
+    consumed : r .consumed ≡ d .consumed
+    consumed = ap (λ (x : Fed). x .consumed) (ran .is)
+
     -- the feed goes on, and not past the end
     pub goes-on : 1 ≤ r .consumed
-    goes-on = rw (ran .consumed) (consumes p m rest (omega (arith, length-drop at bs)))
+    goes-on = rw consumed (consumes p m rest (omega (arith, length-drop at bs)))
 
     pub stays : at + r .consumed ≤ length bs
-    stays = omega (arith, consumed-most p m rest, length-drop at bs, ran .consumed)
+    stays = omega (arith, consumed-most p m rest, length-drop at bs, consumed)
 
     pub hearing-on : length (after .image) ≡ length (l .image) → length (after .receive) ≡ length (l .receive) → length (after .reply) ≡ length (l .reply)
         → Hearing p l₀ bs st₀ after (r .state) (at + r .consumed)
     hearing-on a b c =
-        let next : d .machine ≡ machineOf (r .state) after = sym (machine-eq (machineOf (r .state) after) (d .machine) (ran .image) (ran .held) (ran .state)) in
-        let behind : drop (d .consumed) rest ≡ drop (at + r .consumed) bs = ap (λ (n : ℕ). drop n rest) (sym (ran .consumed)) ∙ drop-drop (r .consumed) at bs in
+        let next : d .machine ≡ machineOf (r .state) after = sym (machine-eq (machineOf (r .state) after) (d .machine) (ran .image) (ap (λ (s : State). take (s .held) (after .receive)) state ∙ ran .held) state) in
+        let behind : drop (d .consumed) rest ≡ drop (at + r .consumed) bs = ap (λ (n : ℕ). drop n rest) (sym consumed) ∙ drop-drop (r .consumed) at bs in
         record {
           within = stays;
           ready = ready-again p l rest st (t .ready) after r ran b c;

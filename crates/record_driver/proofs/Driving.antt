@@ -37,7 +37,7 @@ tried : (refusal : Refusal) (p : Profile) (st : State) (before after : Lent) (r 
 unfolding feedOf front
 tried Accepted p st before after r f =
     record {
-      told = f .refusal;
+      told = ap (λ (x : Fed). x .refusal) (f .is);
       lent =
           ap (λ (x : List ℕ). record { image = x; receive = after .receive; reply = after .reply }) (f .image)
           ∙ ap (λ (x : List ℕ). record { image = before .image; receive = x; reply = after .reply }) (f .idle refl)

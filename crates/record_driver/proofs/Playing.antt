@@ -13,27 +13,12 @@ use Rattle.device_steps.specs.Step.{Machine, machineOf}
 use Rattle.device.proofs.Turns.{machine-eq}
 use Rattle.recording.specs.declared.Found.{Found}
 use Rattle.recording.specs.declared.Found.the-variants.{Host, Device, Reset, End, Unreadable}
-use Rattle.recording.specs.Recording.{Record, foundAt, continued, stopped, recordsFrom, recordsOf, stopFrom, readable, Inside}
-use Rattle.recording.proofs.Reading.{Lies, lies, records-onward, stop-onward}
+use Rattle.recording.specs.Recording.{Record, foundAt, continued, stopped, recordsFrom, recordsOf, stopFrom, readable}
+use Rattle.recording.proofs.Reading.{Lies, lie, records-onward, stop-onward}
 use Rattle.record_history.specs.History.{machineAfter, bufferAfter, callsOf}
 use Rattle.record_driver.specs.Stands.{Stands, callsAt}
 use Rattle.record_driver.specs.Post.{DroveOn}
 use Rattle.record_driver.proofs.Called.{stands-at}
-
--- what was found at a place lies behind it, inside the script
-module _ (s : List ℕ) (at : ℕ) {found : Found} (e : found ≡ foundAt s at) where
-  pub lie : Lies at (length s) found
-  lie = subst (Lies at (length s)) (sym e) (lies s at)
-
-  pub inside : Inside (length s) found
-  inside = inside-in found lie
-    where
-      inside-in : (f : Found) → Lies at (length s) f → Inside (length s) f
-      inside-in (Host part) l = (l .order, l .fits)
-      inside-in (Device part) l = (l .order, l .fits)
-      inside-in (Reset part) l = (l .order, l .fits)
-      inside-in End l = tt
-      inside-in Unreadable l = tt
 
 -- where a record that was found leads
 module _ (s : List ℕ) (at : ℕ) where

@@ -11,7 +11,7 @@ use borrow.Author.Tests.{leb-true, eqb-true}
 use Rattle.recording.specs.declared.Part.{Part}
 use Rattle.recording.specs.declared.Found.{Found}
 use Rattle.recording.specs.declared.Found.the-variants.{Host, Device, Reset, End, Unreadable}
-use Rattle.recording.specs.Recording.{partAt, directed, headed, foundAt, Record, host, device, reset, bytesIn, continued, recordsWithin, recordsFrom, stopped, stopWithin, stopFrom, LiesBehind}
+use Rattle.recording.specs.Recording.{partAt, directed, headed, foundAt, Record, host, device, reset, bytesIn, continued, recordsWithin, recordsFrom, stopped, stopWithin, stopFrom, LiesBehind, Inside}
 use Rattle.recording.proofs.Laws.{both-right, found-end}
 
 -- what is found lies behind its place, and the end is at the end
@@ -40,6 +40,21 @@ lies s at =
     (picked (Lies at (length s)) (headed s at && leb (partAt s at .to) (length s)) _ _
     (λ e. directed-lies at (length s) (getD s (at + 2) 0) (partAt s at)
     (record { head = refl; order = omega arith; fits = leb-true _ _ (both-right (headed s at) _ e) })) tt)
+
+-- what was found at a place lies behind it, inside the recording
+module _ (s : List ℕ) (at : ℕ) {found : Found} (e : found ≡ foundAt s at) where
+  pub lie : Lies at (length s) found
+  lie = subst (Lies at (length s)) (sym e) (lies s at)
+
+  pub inside : Inside (length s) found
+  inside = inside-in found lie
+    where
+      inside-in : (f : Found) → Lies at (length s) f → Inside (length s) f
+      inside-in (Host part) l = (l .order, l .fits)
+      inside-in (Device part) l = (l .order, l .fits)
+      inside-in (Reset part) l = (l .order, l .fits)
+      inside-in End l = tt
+      inside-in Unreadable l = tt
 
 module _ (s : List ℕ) (at : ℕ) (part : Part) where
   pub found-host : foundAt s at ≡ Host part → LiesBehind at (length s) part

@@ -7,8 +7,7 @@ use lib.ListN.{length}
 use Rattle.recording.specs.declared.Found.{Found}
 use Rattle.recording.specs.declared.Found.the-variants.{Host, Device, Reset, End, Unreadable}
 use Rattle.recording.specs.Recording.{foundAt, stopped}
-use Rattle.recording.proofs.Reading.{Lies}
-use Rattle.record_driver.proofs.Playing.{lie}
+use Rattle.recording.proofs.Reading.{Lies, lie}
 
 onward-in : (at n : ℕ) (found : Found) → Lies at n found → at < n → at < stopped (λ to. to) n found
 onward-in at n (Host part) l h = omega arith

@@ -43,10 +43,11 @@ pub enum Awaited {
     Packet(Kind),
 }
 
+// The ID stands first so that a copy of the state is one of whole words: docs/BENCHMARKS.md.
 pub struct State {
-    pub stage: Stage,
     // as latched with C3h
     pub id: [u8; 16],
+    pub stage: Stage,
     pub line: LineSetting,
     // bytes of an incomplete packet at the front of the receive buffer
     pub held: usize,

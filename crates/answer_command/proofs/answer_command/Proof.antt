@@ -9,13 +9,28 @@ use Rattle.answer_command.proofs.answer_command.Statement.{statement}
 use Rattle.answer_command.proofs.answer_command.Tie as tie
 
 grant-requires : tie.Need-grant-requires
-grant-requires c κs = (record { profile = c .before .before .before .before .before .before .before .before .before .pre .0; none-applies = granted-clear _ (sym (c .before .before .before .before .check-command .ensures) ∙ c .before .before .enum-told .given .1); is = c .before .com-of .ensures ∙ ap comOf (c .before .before .before .before .before .byte-at .ensures) }, c .before .before .before .before .before .before .before .before .before .pre .1)
+grant-requires c κs =
+    let pre = c .before .before .before .before .before .before .before .before .before .pre in (
+      record
+          { profile = pre .0; none-applies = granted-clear _ (sym (c .before .before .before .before .check-command .ensures) ∙ c .before .before .enum-told .given .1); is = c .before .com-of .ensures ∙ ap comOf (c .before .before .before .before .before .byte-at .ensures) },
+      pre .1,
+    )
 
 returns : tie.Need-returns
-returns c = answers-as (cc (c .before .before .before .before .before .before .before .before .before .byte-at .ensures, c .before .before .before .with-held .ensures, refused-as (c .before .before .before .before .before .before .before .before .before .before .before .before .before .args .profile) (c .before .before .before .before .before .before .before .before .before .before .before .before .before .args .image .now) (c .before .before .before .before .before .before .before .before .before .before .before .before .before .args .state) (c .before .before .before .before .before .before .before .before .before .before .before .before .before .args .packet .now) _ _ (c .before .before .before .before .before .before .before .before .before .byte-at .ensures) (sym (c .before .before .before .before .before .before .before .before .check-command .ensures) ∙ c .before .before .before .before .before .before .verdict .given .1))) (c .before .before .tell .ensures)
+returns c =
+    let a = c .before .before .before .before .before .before .before .before .before .before .before .before .before .args in
+    let byte-at = c .before .before .before .before .before .before .before .before .before .byte-at in
+    answers-as (cc
+    (byte-at .ensures, c .before .before .before .with-held .ensures, refused-as (a .profile) (a .image .now) (a .state) (a .packet .now) _ _ (byte-at .ensures) (sym (c .before .before .before .before .before .before .before .before .check-command .ensures) ∙ c .before .before .before .before .before .before .verdict .given .1)))
+    (c .before .before .tell .ensures)
 
 returns-2 : tie.Need-returns-2
-returns-2 c = answers-as (granted-as (c .before .before .before .before .before .before .before .before .before .before .before .before .args .profile) (c .before .before .before .before .before .before .before .before .before .before .before .before .args .image .now) (c .before .before .before .before .before .before .before .before .before .before .before .before .args .state) (c .before .before .before .before .before .before .before .before .before .before .before .before .args .packet .now) _ (c .before .before .before .before .com-of .ensures ∙ ap comOf (c .before .before .before .before .before .before .before .before .byte-at .ensures)) (sym (c .before .before .before .before .before .before .before .check-command .ensures) ∙ c .before .before .before .before .before .enum-told .given .1)) (c .before .before .grant .ensures)
+returns-2 c =
+    let a = c .before .before .before .before .before .before .before .before .before .before .before .before .args in
+    answers-as (granted-as (a .profile) (a .image .now) (a .state) (a .packet .now) _
+    (c .before .before .before .before .com-of .ensures ∙ ap comOf (c .before .before .before .before .before .before .before .before .byte-at .ensures))
+    (sym (c .before .before .before .before .before .before .before .check-command .ensures) ∙ c .before .before .before .before .before .enum-told .given .1))
+    (c .before .before .grant .ensures)
 
 pub answer-command-spec : {M : Type 1} → statement M
 answer-command-spec =

@@ -11,7 +11,11 @@ use Rattle.answer_command.proofs.grant_baud.Statement.{statement}
 use Rattle.answer_command.proofs.grant_baud.Tie as tie
 
 returns : tie.Need-returns
-returns c = answers-as (ap (λ (s : State). told (c .before .before .before .before .before .before .before .before .before .before .args .packet .now) Granted Nothing s) (tuned (c .before .before .before .before .before .before .before .before .before .before .args .profile) (c .before .before .before .before .before .before .before .before .before .before .args .state) (c .before .before .before .before .before .before .before .before .before .before .args .packet .now) _ _ _ _ (c .before .before .before .before .before .before .before .four-at .ensures) (c .before .before .before .before .before .before .setting .ensures) (c .before .before .before .before .before .with-line .ensures) (c .before .before .before .before .with-held .ensures))) (c .before .before .accept .ensures)
+returns c =
+    let a = c .before .before .before .before .before .before .before .before .before .before .args in
+    answers-as (ap (λ (s : State). told (a .packet .now) Granted Nothing s)
+    (tuned (a .profile) (a .state) (a .packet .now) _ _ _ _ (c .before .before .before .before .before .before .before .four-at .ensures) (c .before .before .before .before .before .before .setting .ensures) (c .before .before .before .before .before .with-line .ensures) (c .before .before .before .before .with-held .ensures)))
+    (c .before .before .accept .ensures)
 
 pub grant-baud-spec : {M : Type 1} → statement M
 grant-baud-spec =

@@ -11,10 +11,16 @@ returns-2 : tie.Need-returns-2
 returns-2 c = no-data (c .before .before .before .before .before .args .left) (c .before .before .before .before .before .args .packet .now) _ _ (c .before .before .byte-at .ensures) (c .before .before .before .info-count .ensures) (c .before .if1 .left) (c .if2 .taken)
 
 returns-3 : tie.Need-returns-3
-returns-3 c = too-much (c .before .before .before .before .before .before .args .left) (c .before .before .before .before .before .before .args .packet .now) _ _ (c .before .before .before .byte-at .ensures) (c .before .before .before .before .info-count .ensures) (c .before .before .if1 .left) (c .before .if2 .left) (c .if3 .taken)
+returns-3 c =
+    let a = c .before .before .before .before .before .before .args in
+    too-much (a .left) (a .packet .now) _ _ (c .before .before .before .byte-at .ensures) (c .before .before .before .before .info-count .ensures)
+    (c .before .before .if1 .left) (c .before .if2 .left) (c .if3 .taken)
 
 returns-4 : tie.Need-returns-4
-returns-4 c = right-amount (c .before .before .before .before .before .before .args .left) (c .before .before .before .before .before .before .args .packet .now) _ _ (c .before .before .before .byte-at .ensures) (c .before .before .before .before .info-count .ensures) (c .before .before .if1 .left) (c .before .if2 .left) (c .if3 .left)
+returns-4 c =
+    let a = c .before .before .before .before .before .before .args in
+    right-amount (a .left) (a .packet .now) _ _ (c .before .before .before .byte-at .ensures) (c .before .before .before .before .info-count .ensures)
+    (c .before .before .if1 .left) (c .before .if2 .left) (c .if3 .left)
 
 pub check-amount-spec : {M : Type 1} → statement M
 check-amount-spec =

@@ -8,13 +8,28 @@ use Rattle.device.proofs.feed.Statement.{statement}
 use Rattle.device.proofs.feed.Tie as tie
 
 run-requires : tie.Need-run-requires
-run-requires c κs = rows-ready (c .before .before .before .before .before .before .before .before .before .before .before .args .profile) (c .before .before .before .before .before .before .before .before .before .before .before .args .state) (buffers (c .before .before .before .before .before .before .before .before .before .before .before .args .image .now) (c .before .before .before .before .before .before .before .before .before .before .before .args .receive .now) (c .before .before .before .before .before .before .before .before .before .before .before .args .reply .now)) (feed-rows (c .before .before .before .before .before .before .before .before .before .before .before .args .profile) (c .before .before .before .before .before .before .before .before .before .before .before .args .state) (buffers (c .before .before .before .before .before .before .before .before .before .before .before .args .image .now) (c .before .before .before .before .before .before .before .before .before .before .before .args .receive .now) (c .before .before .before .before .before .before .before .before .before .before .before .args .reply .now)) ∙ sym (c .before .before .before .before .before .refused .ensures) ∙ is-accepted (c .before .before .before .before .before .refused .result) (sym (c .before .before .before .before .is-accepted .ensures) ∙ c .before .before .before .if1 .taken))
+run-requires c κs =
+    let a = c .before .before .before .before .before .before .before .before .before .before .before .args in
+    let refused = c .before .before .before .before .before .refused in
+    rows-ready (a .profile) (a .state) (buffers (a .image .now) (a .receive .now) (a .reply .now)) (feed-rows (a .profile) (a .state)
+    (buffers (a .image .now) (a .receive .now) (a .reply .now)) ∙ sym (refused .ensures) ∙ is-accepted (refused .result)
+    (sym (c .before .before .before .before .is-accepted .ensures) ∙ c .before .before .before .if1 .taken))
 
 returns : tie.Need-returns
-returns c = fed-ran _ _ _ _ _ _ _ _ (c .before .before .before .before .before .before .before .before .before .before .before .before .refused .ensures ∙ sym (feed-rows (c .before .before .before .before .before .before .before .before .before .before .before .before .before .before .before .before .before .before .args .profile) (c .before .before .before .before .before .before .before .before .before .before .before .before .before .before .before .before .before .before .args .state) (buffers (c .before .before .before .before .before .before .before .before .before .before .before .before .before .before .before .before .before .before .args .image .now) (c .before .before .before .before .before .before .before .before .before .before .before .before .before .before .before .before .before .before .args .receive .now) (c .before .before .before .before .before .before .before .before .before .before .before .before .before .before .before .before .before .before .args .reply .now)))) (c .before .before .before .before .before .before .before .before .before .before .before .is-accepted .ensures) (c .before .before .before .before .before .before .before .before .before .before .if1 .taken) (c .before .before .before .before .before .before .run .ensures)
+returns c =
+    let a = c .before .before .before .before .before .before .before .before .before .before .before .before .before .before .before .before .before .before .args in
+    fed-ran _ _ _ _ _ _ _ _ (c .before .before .before .before .before .before .before .before .before .before .before .before .refused .ensures ∙ sym
+    (feed-rows (a .profile) (a .state) (buffers (a .image .now) (a .receive .now) (a .reply .now))))
+    (c .before .before .before .before .before .before .before .before .before .before .before .is-accepted .ensures)
+    (c .before .before .before .before .before .before .before .before .before .before .if1 .taken)
+    (c .before .before .before .before .before .before .run .ensures)
 
 returns-2 : tie.Need-returns-2
-returns-2 c = fed-refused _ _ _ _ _ _ _ (c .before .before .refused .ensures ∙ sym (feed-rows (c .before .before .before .before .before .before .before .before .args .profile) (c .before .before .before .before .before .before .before .before .args .state) (buffers (c .before .before .before .before .before .before .before .before .args .image .now) (c .before .before .before .before .before .before .before .before .args .receive .now) (c .before .before .before .before .before .before .before .before .args .reply .now)))) (c .before .is-accepted .ensures) (c .if1 .left)
+returns-2 c =
+    let a = c .before .before .before .before .before .before .before .before .args in
+    fed-refused _ _ _ _ _ _ _
+    (c .before .before .refused .ensures ∙ sym (feed-rows (a .profile) (a .state) (buffers (a .image .now) (a .receive .now) (a .reply .now))))
+    (c .before .is-accepted .ensures) (c .if1 .left)
 
 pub feed-spec : {M : Type 1} → statement M
 feed-spec =

@@ -40,13 +40,17 @@ add-base c = omega (arith, c .size .ensures .1, c .before .before .before .befor
 loop-again : tie.Need-loop-again Inv-loop μ-loop
 unfolding replaced
 loop-again c =
+    let overlap = c .before .before .before .before .before .overlap in
+    let fill = c .before .before .before .fill in
     let a = c .before .before .before .before .before .before .before .before .before .before .before .args in
     let w = c .before .before .before .before .before .before .before .before .loop in
-    let p = c .before .before .before .before .before .overlap .result in
+    let p = overlap .result in
     let d = getD (a .t2 .areas) (w .i) noArea in
-    let new = c .before .before .before .fill .last .0 in
-    let e = erase-part d (w .base) (p .from) (p .to) (w .image) (a .sad) (a .ead) (c .before .before .before .before .before .overlap .ensures) new (c .before .before .before .fill .ensures) in
-    walk-next (erasing (a .sad) (a .ead)) (a .t2) (c .before .before .before .before .before .before .before .before .before .used .result) (a .image .now) (w .image) (replaced (p .from) (p .to) new (w .image)) (w .base) (w .i) (c .size .result) (w .inv) (c .before .before .before .before .before .before .before .loop-test .taken) (c .size .ensures) e
+    let new = fill .last .0 in
+    let e = erase-part d (w .base) (p .from) (p .to) (w .image) (a .sad) (a .ead) (overlap .ensures) new (fill .ensures) in
+    walk-next (erasing (a .sad) (a .ead)) (a .t2) (c .before .before .before .before .before .before .before .before .before .used .result)
+    (a .image .now) (w .image) (replaced (p .from) (p .to) new (w .image)) (w .base) (w .i) (c .size .result) (w .inv)
+    (c .before .before .before .before .before .before .before .loop-test .taken) (c .size .ensures) e
 
 same-length : tie.Need-same-length Inv-loop μ-loop
 same-length c = c .before .loop .inv .kept

@@ -76,16 +76,21 @@ add-base c = omega (arith, c .size .ensures .1, c .before .before .before .befor
 loop-again : tie.Need-loop-again Inv-loop μ-loop
 unfolding replaced
 loop-again c =
+    let lower = c .before .before .before .before .before .before .lower in
+    let copy = c .before .before .before .copy in
     let a = c .before .before .before .before .before .before .before .before .before .before .before .before .before .before .before .before .args in
     let w = c .before .before .before .before .before .before .before .before .before .before .before .before .loop in
     let o = c .before .before .before .before .before .before .before .before .before .overlap in
     let p = o .result in
     let d = getD (a .t2 .areas) (w .i) noArea in
     let vs = a .bytes .now in
-    let new = c .before .before .before .copy .last .1 .0 in
-    let s = c .before .before .before .before .before .before .lower .ensures ∙ ap (λ (k : ℕ). min k (length vs)) (c .before .before .before .before .before .before .before .above .ensures) in
-    let e = store-part d (w .base) (p .from) (p .to) (w .image) (a .address) vs (c .before .before .before .before .before .before .lower .result) (o .ensures) s new (c .before .before .before .copy .ensures .1) in
-    walk-next (storing (a .address) vs) (a .t2) (c .before .before .before .before .before .before .before .before .before .before .before .before .before .used .result) (a .image .now) (w .image) (replaced (p .from) (p .to) new (w .image)) (w .base) (w .i) (c .size .result) (w .inv) (c .before .before .before .before .before .before .before .before .before .before .before .loop-test .taken) (c .size .ensures) e
+    let new = copy .last .1 .0 in
+    let s = lower .ensures ∙ ap (λ (k : ℕ). min k (length vs)) (c .before .before .before .before .before .before .before .above .ensures) in
+    let e = store-part d (w .base) (p .from) (p .to) (w .image) (a .address) vs (lower .result) (o .ensures) s new (copy .ensures .1) in
+    walk-next (storing (a .address) vs) (a .t2)
+    (c .before .before .before .before .before .before .before .before .before .before .before .before .before .used .result) (a .image .now) (w .image)
+    (replaced (p .from) (p .to) new (w .image)) (w .base) (w .i) (c .size .result) (w .inv)
+    (c .before .before .before .before .before .before .before .before .before .before .before .loop-test .taken) (c .size .ensures) e
 
 same-length : tie.Need-same-length Inv-loop μ-loop
 same-length c = c .before .loop .inv .kept

@@ -23,7 +23,11 @@ returns : tie.Need-returns Inv-loop μ-loop
 returns c = c .before .before .before .before .before .loop .inv
 
 loop-less : tie.Need-loop-less Inv-loop μ-loop
-loop-less c = piece-less (c .before .before .before .before .before .before .before .args .piece) (c .before .before .before .before .before .loop .at) (length (c .before .before .before .before .before .before .before .args .target .now)) (c .before .before .before .unit-end .result) (c .before .before .before .before .before .before .before .pre .0) (c .before .before .before .unit-end .ensures) (c .before .before .before .before .loop-test .taken)
+loop-less c =
+    let a = c .before .before .before .before .before .before .before .args in
+    let unit-end = c .before .before .before .unit-end in
+    piece-less (a .piece) (c .before .before .before .before .before .loop .at) (length (a .target .now)) (unit-end .result)
+    (c .before .before .before .before .before .before .before .pre .0) (unit-end .ensures) (c .before .before .before .before .loop-test .taken)
 
 loop-again : tie.Need-loop-again Inv-loop μ-loop
 loop-again c =

@@ -6,10 +6,15 @@ use Rattle.interface.proofs.feed_state.Statement.{statement}
 use Rattle.interface.proofs.feed_state.Tie as tie
 
 returns : tie.Need-returns
-returns c = let a = c .before .before .before .before .before .before .before .before .before .before .before .before .before .before .before .before .before .before .before .before .before .args in let f = c .before .before .before .before .before .before .before .before .before .before .before .before .feed in
+returns c =
+    let number = c .before .before .before .before .before .number in
+    let put = c .before .before .put in
+    let a = c .before .before .before .before .before .before .before .before .before .before .before .before .before .before .before .before .before .before .before .before .before .args in
+    let f = c .before .before .before .before .before .before .before .before .before .before .before .before .feed in
     fed-bytes (a .p) (a .st) (a .input .now) (buffers (a .image .now) (a .receive .now) (a .reply .now))
-    (buffers (f .last .1 .0) (f .last .1 .1 .1 .0) (f .last .1 .1 .1 .1 .0)) (f .result) (a .state .now) (c .before .before .put .last .0)
-    (c .before .before .before .before .before .number .result) (c .before .before .before .before .before .before .before .before .before .before .before .before .before .before .before .before .before .before .before .before .before .pre) (c .before .before .before .before .before .number .ensures) (c .before .before .put .ensures) (f .ensures)
+    (buffers (f .last .1 .0) (f .last .1 .1 .1 .0) (f .last .1 .1 .1 .1 .0)) (f .result) (a .state .now) (put .last .0) (number .result)
+    (c .before .before .before .before .before .before .before .before .before .before .before .before .before .before .before .before .before .before .before .before .before .pre)
+    (number .ensures) (put .ensures) (f .ensures)
 
 pub feed-state-spec : {M : Type 1} → statement M
 feed-state-spec =

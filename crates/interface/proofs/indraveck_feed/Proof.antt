@@ -9,7 +9,11 @@ use Rattle.interface.proofs.indraveck_feed.Statement.{statement}
 use Rattle.interface.proofs.indraveck_feed.Tie as tie
 
 feed-state-requires : tie.Need-feed-state-requires
-feed-state-requires c κs = found-length (c .before .before .before .before .before .before .before .before .before .before .before .before .before .before .before .before .before .before .before .before .args .state .now) _ (sym (c .before .before .before .before .before .before .before .before .before .before .before .before .stage-in .ensures) ∙ c .before .before .before .before .before .before .before .before .before .before .found .given .1)
+feed-state-requires c κs =
+    found-length
+    (c .before .before .before .before .before .before .before .before .before .before .before .before .before .before .before .before .before .before .before .before .args .state .now)
+    _ (sym (c .before .before .before .before .before .before .before .before .before .before .before .before .stage-in .ensures)
+    ∙ c .before .before .before .before .before .before .before .before .before .before .found .given .1)
 
 returns : tie.Need-returns
 returns c = let a = c .before .before .before .before .before .before .before .before .before .before .before .before .before .args in
@@ -17,10 +21,16 @@ returns c = let a = c .before .before .before .before .before .before .before .b
     (sym (c .before .before .before .before .before .stage-in .ensures) ∙ c .before .before .before .enum-told .given .1) (c .before .begin .result) (c .before .begin .ensures) (c .number .result) (c .number .ensures)
 
 returns-2 : tie.Need-returns-2
-returns-2 c = let a = c .before .before .before .before .before .before .before .before .before .before .before .before .before .before .before .before .before .before .before .before .before .before .before .before .before .before .before .before .before .args in let f = c .before .before .before .before .before .before .before .before .feed-state in
-    fed-both (a .profile .now) (a .input .now) (bytes (a .image .now) (a .state .now) (a .receive .now) (a .reply .now))
-    (c .before .before .before .before .before .before .before .before .before .before .before .before .before .before .before .before .before .profile-in .result) (c .before .before .before .before .before .before .before .before .before .before .before .before .before .before .before .before .before .profile-in .ensures) _ (sym (c .before .before .before .before .before .before .before .before .before .before .before .before .before .before .before .before .before .before .before .before .before .stage-in .ensures) ∙ c .before .before .before .before .before .before .before .before .before .before .before .before .before .before .before .before .before .before .before .found .given .1) (c .before .before .before .before .before .before .before .before .before .before .before .before .before .before .before .state-in .result) (c .before .before .before .before .before .before .before .before .before .before .before .before .before .before .before .state-in .ensures)
-    (bytes (f .last .1 .0) (f .last .1 .1 .0) (f .last .1 .1 .1 .1 .0) (f .last .1 .1 .1 .1 .1 .0))
+returns-2 c =
+    let profile-in = c .before .before .before .before .before .before .before .before .before .before .before .before .before .before .before .before .before .profile-in in
+    let state-in = c .before .before .before .before .before .before .before .before .before .before .before .before .before .before .before .state-in in
+    let a = c .before .before .before .before .before .before .before .before .before .before .before .before .before .before .before .before .before .before .before .before .before .before .before .before .before .before .before .before .before .args in
+    let f = c .before .before .before .before .before .before .before .before .feed-state in
+    fed-both (a .profile .now) (a .input .now) (bytes (a .image .now) (a .state .now) (a .receive .now) (a .reply .now)) (profile-in .result)
+    (profile-in .ensures) _ (sym
+    (c .before .before .before .before .before .before .before .before .before .before .before .before .before .before .before .before .before .before .before .before .before .stage-in .ensures)
+    ∙ c .before .before .before .before .before .before .before .before .before .before .before .before .before .before .before .before .before .before .before .found .given .1)
+    (state-in .result) (state-in .ensures) (bytes (f .last .1 .0) (f .last .1 .1 .0) (f .last .1 .1 .1 .1 .0) (f .last .1 .1 .1 .1 .1 .0))
     (numbers (f .result) (f .last .1 .1 .1 .1 .1 .1 .1 .0) (f .last .1 .1 .1 .1 .1 .1 .1 .1 .0)) (f .ensures)
 
 pub indraveck-feed-spec : {M : Type 1} → statement M

@@ -6,8 +6,13 @@ use Rattle.interface.proofs.indraveck_start.Statement.{statement}
 use Rattle.interface.proofs.indraveck_start.Tie as tie
 
 returns : tie.Need-returns
-returns c = let a = c .before .before .before .before .before .before .before .before .before .before .args in
-    started (a .profile .now) (length (a .image .now)) (a .state .now) (c .before .before .put .last .0) (c .before .before .before .before .before .before .begin .result) (c .before .before .before .before .before .before .begin .ensures) (c .before .before .before .before .number .result) (c .before .before .before .before .number .ensures) (c .before .before .put .ensures)
+returns c =
+    let begin = c .before .before .before .before .before .before .begin in
+    let number = c .before .before .before .before .number in
+    let put = c .before .before .put in
+    let a = c .before .before .before .before .before .before .before .before .before .before .args in
+    started (a .profile .now) (length (a .image .now)) (a .state .now) (put .last .0) (begin .result) (begin .ensures) (number .result) (number .ensures)
+    (put .ensures)
 
 pub indraveck-start-spec : {M : Type 1} → statement M
 indraveck-start-spec =

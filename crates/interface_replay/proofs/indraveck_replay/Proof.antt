@@ -7,12 +7,22 @@ use Rattle.interface_replay.proofs.indraveck_replay.Statement.{statemen
 use Rattle.interface_replay.proofs.indraveck_replay.Tie as tie
 
 returns : tie.Need-returns
-returns c = let a = c .before .before .before .before .before .before .before .before .before .args in
-    left (a .profile .now) (a .recording .now) (a .image .now) (c .before .before .before .before .before .profile-in .result) (c .before .before .before .before .before .profile-in .ensures) (c .before .before .before .start .result) (c .before .before .before .start .ensures) (sym (c .before .before .is-accepted .ensures) ∙ not-true _ (c .before .if1 .taken)) (c .number .result) (c .number .ensures)
+returns c =
+    let profile-in = c .before .before .before .before .before .profile-in in
+    let start = c .before .before .before .start in
+    let a = c .before .before .before .before .before .before .before .before .before .args in
+    left (a .profile .now) (a .recording .now) (a .image .now) (profile-in .result) (profile-in .ensures) (start .result) (start .ensures)
+    (sym (c .before .before .is-accepted .ensures) ∙ not-true _ (c .before .if1 .taken)) (c .number .result) (c .number .ensures)
 
 returns-2 : tie.Need-returns-2
-returns-2 c = let a = c .before .before .before .before .before .before .before .before .before .before .before .before .args in
-    replayed (a .profile .now) (a .recording .now) (a .image .now) (c .before .before .before .before .before .before .before .before .profile-in .result) (c .before .before .before .before .before .before .before .before .profile-in .ensures) (c .before .before .before .before .before .before .start .result) (c .before .before .before .before .before .before .start .ensures) (sym (c .before .before .before .before .before .is-accepted .ensures) ∙ not-false _ (c .before .before .before .before .if1 .left)) (c .before .before .play .last .0) (c .before .before .play .result) (c .before .before .play .ensures)
+returns-2 c =
+    let profile-in = c .before .before .before .before .before .before .before .before .profile-in in
+    let start = c .before .before .before .before .before .before .start in
+    let play = c .before .before .play in
+    let a = c .before .before .before .before .before .before .before .before .before .before .before .before .args in
+    replayed (a .profile .now) (a .recording .now) (a .image .now) (profile-in .result) (profile-in .ensures) (start .result) (start .ensures)
+    (sym (c .before .before .before .before .before .is-accepted .ensures) ∙ not-false _ (c .before .before .before .before .if1 .left)) (play .last .0)
+    (play .result) (play .ensures)
 
 pub indraveck-replay-spec : {M : Type 1} → statement M
 indraveck-replay-spec =

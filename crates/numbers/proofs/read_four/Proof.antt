@@ -21,20 +21,48 @@ shared-slice-read-wide-2 : tie.Need-shared-slice-read-wide-2
 shared-slice-read-wide-2 c = omega (arith, room (c .before .before .before .before .before .before .args .at) 4 (length (c .before .before .before .before .before .before .args .s .now)) _ (c .before .before .before .before .has-field .ensures) (c .before .before .before .if1 .left))
 
 add-wide-2 : tie.Need-add-wide-2
-add-wide-2 c = omega (arith, room (c .before .before .before .before .before .before .before .args .at) 4 (length (c .before .before .before .before .before .before .before .args .s .now)) _ (c .before .before .before .before .before .has-field .ensures) (c .before .before .before .before .if1 .left))
+add-wide-2 c =
+    let a = c .before .before .before .before .before .before .before .args in
+    omega (
+      arith,
+      room (a .at) 4 (length (a .s .now)) _ (c .before .before .before .before .before .has-field .ensures)
+          (c .before .before .before .before .if1 .left),
+    )
 
 shared-slice-read-wide-3 : tie.Need-shared-slice-read-wide-3
-shared-slice-read-wide-3 c = omega (arith, room (c .before .before .before .before .before .before .before .before .args .at) 4 (length (c .before .before .before .before .before .before .before .before .args .s .now)) _ (c .before .before .before .before .before .before .has-field .ensures) (c .before .before .before .before .before .if1 .left))
+shared-slice-read-wide-3 c =
+    let a = c .before .before .before .before .before .before .before .before .args in
+    omega (
+      arith,
+      room (a .at) 4 (length (a .s .now)) _ (c .before .before .before .before .before .before .has-field .ensures)
+          (c .before .before .before .before .before .if1 .left),
+    )
 
 add-wide-3 : tie.Need-add-wide-3
-add-wide-3 c = omega (arith, room (c .before .before .before .before .before .before .before .before .before .args .at) 4 (length (c .before .before .before .before .before .before .before .before .before .args .s .now)) _ (c .before .before .before .before .before .before .before .has-field .ensures) (c .before .before .before .before .before .before .if1 .left))
+add-wide-3 c =
+    let a = c .before .before .before .before .before .before .before .before .before .args in
+    omega (
+      arith,
+      room (a .at) 4 (length (a .s .now)) _ (c .before .before .before .before .before .before .before .has-field .ensures)
+          (c .before .before .before .before .before .before .if1 .left),
+    )
 
 shared-slice-read-wide-4 : tie.Need-shared-slice-read-wide-4
-shared-slice-read-wide-4 c = omega (arith, room (c .before .before .before .before .before .before .before .before .before .before .args .at) 4 (length (c .before .before .before .before .before .before .before .before .before .before .args .s .now)) _ (c .before .before .before .before .before .before .before .before .has-field .ensures) (c .before .before .before .before .before .before .before .if1 .left))
+shared-slice-read-wide-4 c =
+    let a = c .before .before .before .before .before .before .before .before .before .before .args in
+    omega (
+      arith,
+      room (a .at) 4 (length (a .s .now)) _ (c .before .before .before .before .before .before .before .before .has-field .ensures)
+          (c .before .before .before .before .before .before .before .if1 .left),
+    )
 
 returns-2 : tie.Need-returns-2
 unfolding digits number
-returns-2 c = read-field 4 (c .before .before .before .before .before .before .before .before .before .before .before .args .s .now) (c .before .before .before .before .before .before .before .before .before .before .before .args .at) _ (room (c .before .before .before .before .before .before .before .before .before .before .before .args .at) 4 (length (c .before .before .before .before .before .before .before .before .before .before .before .args .s .now)) _ (c .before .before .before .before .before .before .before .before .before .has-field .ensures) (c .before .before .before .before .before .before .before .before .if1 .left)) (rw (add-zero (c .before .before .before .before .before .before .before .before .before .before .before .args .at)) (omega arith))
+returns-2 c =
+    let a = c .before .before .before .before .before .before .before .before .before .before .before .args in
+    read-field 4 (a .s .now) (a .at) _ (room (a .at) 4 (length (a .s .now)) _
+    (c .before .before .before .before .before .before .before .before .before .has-field .ensures)
+    (c .before .before .before .before .before .before .before .before .if1 .left)) (rw (add-zero (a .at)) (omega arith))
 
 pub read-four-spec : {M : Type 1} → statement M
 read-four-spec =

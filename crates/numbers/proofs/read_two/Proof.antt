@@ -22,7 +22,11 @@ shared-slice-read-wide-2 c = omega (arith, room (c .before .before .before .befo
 
 returns-2 : tie.Need-returns-2
 unfolding digits number
-returns-2 c = read-field 2 (c .before .before .before .before .before .before .before .args .s .now) (c .before .before .before .before .before .before .before .args .at) _ (room (c .before .before .before .before .before .before .before .args .at) 2 (length (c .before .before .before .before .before .before .before .args .s .now)) _ (c .before .before .before .before .before .has-field .ensures) (c .before .before .before .before .if1 .left)) (rw (add-zero (c .before .before .before .before .before .before .before .args .at)) (omega arith))
+returns-2 c =
+    let a = c .before .before .before .before .before .before .before .args in
+    read-field 2 (a .s .now) (a .at) _
+    (room (a .at) 2 (length (a .s .now)) _ (c .before .before .before .before .before .has-field .ensures) (c .before .before .before .before .if1 .left))
+    (rw (add-zero (a .at)) (omega arith))
 
 pub read-two-spec : {M : Type 1} → statement M
 read-two-spec =

@@ -21,8 +21,15 @@ returns-3 c = simp (ne-eqb _ _ (c .before .before .before .before .before .befor
 
 returns-4 : tie.Need-returns-4
 unfolding progressOf
-returns-4 c = let e = sym (c .before .before .before .before .read-two .ensures) ∙ c .before .before .length .given .1 in
-    simp (ne-eqb _ _ (c .before .before .before .before .before .before .before .before .if1 .left), ← c .before .before .before .before .before .before .start-byte .ensures, eq-eqb _ _ (c .before .before .before .before .before .if2 .left), length-there _ _ e, ← length-read _ _ e) (c .measured .ensures)
+returns-4 c =
+    let e = sym (c .before .before .before .before .read-two .ensures) ∙ c .before .before .length .given .1 in
+    simp (
+      ne-eqb _ _ (c .before .before .before .before .before .before .before .before .if1 .left),
+      ← c .before .before .before .before .before .before .start-byte .ensures,
+      eq-eqb _ _ (c .before .before .before .before .before .if2 .left),
+      length-there _ _ e,
+      ← length-read _ _ e,
+    ) (c .measured .ensures)
 
 pub gathered-spec : {M : Type 1} → statement M
 gathered-spec =

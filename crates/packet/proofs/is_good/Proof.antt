@@ -11,7 +11,15 @@ returns c = simp (← c .before .before .before .gathered .ensures, sym (c .befo
 
 returns-2 : tie.Need-returns-2
 unfolding good
-returns-2 c = simp (← c .before .before .before .before .before .before .gathered .ensures, ← c .before .before .before .gathered2 .ensures, sym (c .before .before .before .before .before .is-complete .ensures) ∙ c .before .before .before .before .if1 .left, sym (c .before .before .is-complete2 .ensures) ∙ c .before .if2 .taken) (c .ends-well2 .ensures)
+returns-2 c =
+    simp (
+      ← c .before .before .before .before .before .before .gathered .ensures,
+      ← c .before .before .before .gathered2 .ensures,
+      sym
+          (c .before .before .before .before .before .is-complete .ensures) ∙ c .before .before .before .before .if1 .left,
+      sym
+          (c .before .before .is-complete2 .ensures) ∙ c .before .if2 .taken,
+    ) (c .ends-well2 .ensures)
 
 returns-3 : tie.Need-returns-3
 unfolding good

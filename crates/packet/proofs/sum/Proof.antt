@@ -20,7 +20,14 @@ loop-holds : tie.Need-loop-holds Inv-loop μ-loop
 loop-holds c = (search needs, ap (λ (n : ℕ). n % 256) {x = 0 + sumOf (c .before .args .s .now)} {y = sumOf (c .before .args .s .now)} (omega arith), omega arith)
 
 loop-again : tie.Need-loop-again Inv-loop μ-loop
-loop-again c = (search needs, rw (c .wrapping-add-u8 .ensures) (sum-next (c .before .before .before .before .before .args .s .now) (c .before .before .before .loop .i) (c .before .before .before .loop .t) _ (c .before .before .loop-test .taken) (c .before .before .before .loop .inv .1)), rw (c .wrapping-add-u8 .ensures) (mod-lt _ (omega arith)))
+loop-again c =
+    let loop = c .before .before .before .loop in (
+      search needs,
+      rw (c .wrapping-add-u8 .ensures)
+          (sum-next (c .before .before .before .before .before .args .s .now) (loop .i) (loop .t) _ (c .before .before .loop-test .taken) (loop .inv .1)),
+      rw
+          (c .wrapping-add-u8 .ensures) (mod-lt _ (omega arith)),
+    )
 
 returns : tie.Need-returns Inv-loop μ-loop
 unfolding sumOf

@@ -13,9 +13,14 @@ slice-aggregate-gain : tie.Need-slice-aggregate-gain
 slice-aggregate-gain c = sym (length-take-le (c .before .before .before .args .held) (c .before .before .before .args .receive .now) (c .before .before .before .pre .inside))
 
 place-requires : tie.Need-place-requires
-place-requires c κs = let a = c .before .before .before .before .before .before .args in
-    let e = c .before .lower .ensures ∙ ap (λ (k : ℕ). min k (length (a .input .now))) (c .before .before .gain .ensures) in
-    (omega (arith, taken-room (a .kind) (a .held) (a .receive .now) (a .input .now) (c .before .before .before .before .before .before .pre) (c .before .lower .result) e), taken-there (a .kind) (a .held) (a .receive .now) (a .input .now) (c .before .before .before .before .before .before .pre) (c .before .lower .result) e)
+place-requires c κs =
+    let pre = c .before .before .before .before .before .before .pre in
+    let a = c .before .before .before .before .before .before .args in
+    let e = c .before .lower .ensures ∙ ap (λ (k : ℕ). min k (length (a .input .now))) (c .before .before .gain .ensures) in (
+      omega (arith, taken-room (a .kind) (a .held) (a .receive .now) (a .input .now) (pre) (c .before .lower .result) e),
+      taken-there (a .kind) (a .held)
+          (a .receive .now) (a .input .now) (pre) (c .before .lower .result) e,
+    )
 
 pub gather-spec : {M : Type 1} → statement M
 gather-spec =

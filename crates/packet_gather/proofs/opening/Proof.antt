@@ -23,10 +23,20 @@ slice-aggregate-lacking : tie.Need-slice-aggregate-lacking
 slice-aggregate-lacking c = sym (length-take-le 3 (c .before .before .before .before .before .before .args .input .now) (c .before .before .before .before .if1 .left))
 
 add-result : tie.Need-add-result
-add-result c = omega (arith, c .lacking .ensures, lack-few (c .before .before .before .before .before .before .before .args .kind) (take 3 (c .before .before .before .before .before .before .before .args .input .now)) (sym (c .before .before .before .waits .ensures) ∙ not-false _ (c .before .before .if2 .left)))
+add-result c =
+    let a = c .before .before .before .before .before .before .before .args in
+    omega (
+      arith,
+      c .lacking .ensures,
+      lack-few (a .kind) (take 3 (a .input .now))
+          (sym (c .before .before .before .waits .ensures) ∙ not-false _ (c .before .before .if2 .left)),
+    )
 
 returns-3 : tie.Need-returns-3
-returns-3 c = ap (λ (k : ℕ). k + 3) (c .lacking .ensures) ∙ open-some (c .before .before .before .before .before .before .before .args .kind) (c .before .before .before .before .before .before .before .args .input .now) (c .before .before .before .before .before .if1 .left) (sym (c .before .before .before .waits .ensures) ∙ not-false _ (c .before .before .if2 .left))
+returns-3 c =
+    let a = c .before .before .before .before .before .before .before .args in
+    ap (λ (k : ℕ). k + 3) (c .lacking .ensures) ∙ open-some (a .kind) (a .input .now) (c .before .before .before .before .before .if1 .left)
+    (sym (c .before .before .before .waits .ensures) ∙ not-false _ (c .before .before .if2 .left))
 
 pub opening-spec : {M : Type 1} → statement M
 opening-spec =

@@ -19,14 +19,33 @@ loop-holds : tie.Need-loop-holds Inv-loop μ-loop
 loop-holds c = (c .used .ensures .0, omega arith, c .used .ensures .1, ap (λ l. placeFrom 0 l (c .before .args .address)) (sym (entries-start (c .before .args .t1) (c .used .result) (c .used .ensures .0))), omega arith)
 
 returns : tie.Need-returns Inv-loop μ-loop
-returns c = let t = sym (c .before .holds .ensures) ∙ c .if1 .taken in let b = inside-bounds _ _ t in
-    record { is = sym (c .before .before .before .before .loop .inv .3 ∙ place-here (c .before .before .before .before .before .before .args .t1 .areas) (c .before .before .before .before .before .before .args .address) (c .before .before .before .before .loop .base) (c .before .before .before .before .loop .i) (c .before .before .before .before .before .used .result) (c .before .before .before .loop-test .taken) t); bounds = (b .0, b .1, omega arith) }
+returns c =
+    let a = c .before .before .before .before .before .before .args in
+    let loop = c .before .before .before .before .loop in
+    let t = sym (c .before .holds .ensures) ∙ c .if1 .taken in
+    let b = inside-bounds _ _ t in
+    record {
+      is = sym
+          (loop .inv .3 ∙ place-here (a .t1 .areas) (a .address) (loop .base) (loop .i) (c .before .before .before .before .before .used .result) (c .before .before .before .loop-test .taken) t);
+      bounds = (b .0, b .1, omega arith);
+    }
 
 add-base : tie.Need-add-base Inv-loop μ-loop
 add-base c = omega (arith, c .size .ensures .1)
 
 loop-again : tie.Need-loop-again Inv-loop μ-loop
-loop-again c = (c .before .before .before .before .before .loop .inv .0, search needs, c .before .before .before .before .before .loop .inv .2, c .before .before .before .before .before .loop .inv .3 ∙ place-later (c .before .before .before .before .before .before .before .args .t1 .areas) (c .before .before .before .before .before .before .before .args .address) (c .before .before .before .before .before .loop .base) (c .before .before .before .before .before .loop .i) (c .before .before .before .before .before .before .used .result) (c .before .before .before .before .loop-test .taken) (sym (c .before .before .holds .ensures) ∙ c .before .if1 .left) ∙ ap (λ k. placeFrom (c .before .before .before .before .before .loop .base + k) (entries (c .before .before .before .before .before .loop .i + 1) (c .before .before .before .before .before .before .used .result - (c .before .before .before .before .before .loop .i + 1)) (c .before .before .before .before .before .before .before .args .t1 .areas)) (c .before .before .before .before .before .before .before .args .address)) (sym (c .size .ensures .0)), omega (arith, c .size .ensures .1))
+loop-again c =
+    let a = c .before .before .before .before .before .before .before .args in
+    let used = c .before .before .before .before .before .before .used in
+    let loop = c .before .before .before .before .before .loop in (
+      loop .inv .0,
+      search needs,
+      loop .inv .2,
+      loop .inv .3 ∙ place-later (a .t1 .areas) (a .address) (loop .base) (loop .i) (used .result)
+          (c .before .before .before .before .loop-test .taken) (sym (c .before .before .holds .ensures) ∙ c .before .if1 .left) ∙ ap
+          (λ k. placeFrom (loop .base + k) (entries (loop .i + 1) (used .result - (loop .i + 1)) (a .t1 .areas)) (a .address)) (sym (c .size .ensures .0)),
+      omega (arith, c .size .ensures .1),
+    )
 
 returns-2 : tie.Need-returns-2 Inv-loop μ-loop
 returns-2 c = record { is = sym (c .before .loop .inv .3 ∙ place-end (c .before .before .before .args .t1 .areas) (c .before .before .before .args .address) (c .before .loop .base) (c .before .loop .i) (c .before .before .used .result) (c .loop-test .left)); bounds = tt }

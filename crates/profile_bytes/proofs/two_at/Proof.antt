@@ -8,7 +8,13 @@ use Rattle.profile_bytes.proofs.two_at.Statement.{statement}
 use Rattle.profile_bytes.proofs.two_at.Tie as tie
 
 cast-result : tie.Need-cast-result
-cast-result c = omega (arith, two-small (c .before .before .before .before .before .args .bytes .now) (c .before .before .before .before .before .args .at) _ (λ i. omega (arith, c .before .before .before .before .shared-slice-known .given i)) (sym (c .before .number .given .1) ∙ c .before .before .before .read-two .ensures))
+cast-result c =
+    let a = c .before .before .before .before .before .args in
+    omega (
+      arith,
+      two-small (a .bytes .now) (a .at) _ (λ i. omega (arith, c .before .before .before .before .shared-slice-known .given i))
+          (sym (c .before .number .given .1) ∙ c .before .before .before .read-two .ensures),
+    )
 
 returns : tie.Need-returns
 unfolding twoAt

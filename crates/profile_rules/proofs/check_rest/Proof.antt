@@ -8,6 +8,11 @@ use Rattle.profile_rules.proofs.Laws.{acceptable-none, breaks-some}
 use Rattle.profile_rules.proofs.check_rest.Statement.{statement}
 use Rattle.profile_rules.proofs.check_rest.Tie as tie
 
+check-tail-requires : tie.Need-check-tail-requires
+check-tail-requires c κs =
+    let w = c .before .before .before .survey in
+    tallies-are (areasOf (c .before .before .before .before .args .profile)) (w .result) (w .ensures) (c .enum-told .given .1)
+
 returns : tie.Need-returns
 returns c =
     let w = c .before .before .before .before .survey in
@@ -29,5 +34,5 @@ returns-3 c =
 
 pub check-rest-spec : {M : Type 1} → statement M
 check-rest-spec =
-    tie.close (tie.spec (λ c κs. search needs) (λ c. search needs) (λ c. search needs) (λ c κs. search needs)
+    tie.close (tie.spec (λ c κs. search needs) (λ c. search needs) (λ c. search needs) check-tail-requires
     (λ c. search needs) (λ c. search needs) returns returns-2 returns-3)

@@ -12,8 +12,8 @@ use Rattle.profile.specs.Areas.{entries, areasOf, tally, totalOf, sizeOf}
 use Rattle.profile.specs.declared.Area.{Area}
 use Rattle.profile.specs.declared.Profile.{Profile}
 use Rattle.profile_rules.specs.declared.Rule.{Rule}
-use Rattle.profile_rules.specs.Judged.{surveyedAs, surveyOf}
-use Rattle.profile_rules.specs.Rules.{tableChecks, config, smallConfig, talliesOf}
+use Rattle.profile_rules.specs.Judged.{talliesOf, surveyedAs, surveyOf}
+use Rattle.profile_rules.specs.Rules.{tableChecks, config, smallConfig}
 use Rattle.profile_rules.proofs.Judging.{counted-all}
 use Rattle.profile_rules.proofs.Laws.{table-next, table-stops, table-end}
 use Rattle.profile_rules.proofs.survey.Statement.{statement}

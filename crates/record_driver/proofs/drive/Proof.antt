@@ -8,16 +8,33 @@ returns : tie.Need-returns
 returns c = unstarted _ _ (c .before .before .before .start .ensures) (c .before .is-accepted .ensures) _ (c .if1 .taken)
 
 returns-2 : tie.Need-returns-2
-returns-2 c = unfed _ _ (c .before .before .before .before .before .before .before .before .before .before .before .before .before .before .before .before .start .ensures) (c .before .before .before .before .before .before .before .before .before .before .before .before .before .before .is-accepted .ensures) (c .before .before .before .before .before .before .before .before .before .before .before .before .before .if1 .left)
-    _ _ (c .before .before .before .before .before .before .before .before .feed .ensures) (c .before .is-accepted2 .ensures) _ (c .if2 .taken)
+returns-2 c =
+    unfed _ _
+    (c .before .before .before .before .before .before .before .before .before .before .before .before .before .before .before .before .start .ensures)
+    (c .before .before .before .before .before .before .before .before .before .before .before .before .before .before .is-accepted .ensures)
+    (c .before .before .before .before .before .before .before .before .before .before .before .before .before .if1 .left) _ _
+    (c .before .before .before .before .before .before .before .before .feed .ensures) (c .before .is-accepted2 .ensures) _ (c .if2 .taken)
 
 run-requires : tie.Need-run-requires
-run-requires c κs = begun-ready _ _ (c .before .before .before .before .before .before .before .before .before .before .before .before .before .before .before .before .before .before .before .start .ensures) (c .before .before .before .before .before .before .before .before .before .before .before .before .before .before .before .before .before .is-accepted .ensures) (c .before .before .before .before .before .before .before .before .before .before .before .before .before .before .before .before .if1 .left)
-    _ _ (c .before .before .before .before .before .before .before .before .before .before .before .feed .ensures) (c .before .before .before .before .is-accepted2 .ensures) (c .before .before .before .if2 .left)
+run-requires c κs =
+    begun-ready _ _
+    (c .before .before .before .before .before .before .before .before .before .before .before .before .before .before .before .before .before .before .before .start .ensures)
+    (c .before .before .before .before .before .before .before .before .before .before .before .before .before .before .before .before .before .is-accepted .ensures)
+    (c .before .before .before .before .before .before .before .before .before .before .before .before .before .before .before .before .if1 .left) _ _
+    (c .before .before .before .before .before .before .before .before .before .before .before .feed .ensures)
+    (c .before .before .before .before .is-accepted2 .ensures) (c .before .before .before .if2 .left)
 
 returns-3 : tie.Need-returns-3
-returns-3 c = driven _ _ (c .before .before .before .before .before .before .before .before .before .before .before .before .before .before .before .before .before .before .before .before .before .before .before .before .before .before .start .ensures) (c .before .before .before .before .before .before .before .before .before .before .before .before .before .before .before .before .before .before .before .before .before .before .before .before .is-accepted .ensures) (c .before .before .before .before .before .before .before .before .before .before .before .before .before .before .before .before .before .before .before .before .before .before .before .if1 .left)
-    _ _ (c .before .before .before .before .before .before .before .before .before .before .before .before .before .before .before .before .before .before .feed .ensures) (c .before .before .before .before .before .before .before .before .before .before .before .is-accepted2 .ensures) (c .before .before .before .before .before .before .before .before .before .before .if2 .left) (c .before .before .before .before .before .before .run .ensures)
+returns-3 c =
+    driven _ _
+    (c .before .before .before .before .before .before .before .before .before .before .before .before .before .before .before .before .before .before .before .before .before .before .before .before .before .before .start .ensures)
+    (c .before .before .before .before .before .before .before .before .before .before .before .before .before .before .before .before .before .before .before .before .before .before .before .before .is-accepted .ensures)
+    (c .before .before .before .before .before .before .before .before .before .before .before .before .before .before .before .before .before .before .before .before .before .before .before .if1 .left)
+    _ _
+    (c .before .before .before .before .before .before .before .before .before .before .before .before .before .before .before .before .before .before .feed .ensures)
+    (c .before .before .before .before .before .before .before .before .before .before .before .is-accepted2 .ensures)
+    (c .before .before .before .before .before .before .before .before .before .before .if2 .left)
+    (c .before .before .before .before .before .before .run .ensures)
 
 pub drive-spec : {M : Type 1} → statement M
 drive-spec =

@@ -1,6 +1,7 @@
 -- `record_driver::run` meets its contract. The loop keeps that all records give what the rest gives from the machine reached. Assumes nothing.
 use Rattle.device_calls.specs.Calls.{buffers}
-use Rattle.record_driver.proofs.Playing.{Playing, playing-none, inside, played-all, farther, playing-on}
+use Rattle.record_driver.proofs.Playing.{Playing, playing-none, played-all, farther, playing-on}
+use Rattle.recording.proofs.Reading.{inside}
 use native.Mathlib.Omega.{arith}
 use borrow.Author.Needs.{needs}
 use Prim.Native.Nat.{_-_}
@@ -33,10 +34,23 @@ call-requires : tie.Need-call-requires Inv-loop μ-loop
 call-requires c κs = (c .before .before .before .before .before .before .loop .inv .ready, inside _ _ (c .before .before .before .before .before .record-at .ensures))
 
 loop-less : tie.Need-loop-less Inv-loop μ-loop
-loop-less c = omega (arith, farther (c .before .before .before .before .before .before .before .before .before .before .before .before .before .loop .inv) (c .before .before .before .before .before .before .before .before .before .before .before .before .record-at .ensures) (c .before .before .before .before .before .before .before .before .before .before .before .behind .ensures) (c .before .before .before .before .before .before .before .before .before .before .if1 .left))
+loop-less c =
+    omega (
+      arith,
+      farther (c .before .before .before .before .before .before .before .before .before .before .before .before .before .loop .inv)
+          (c .before .before .before .before .before .before .before .before .before .before .before .before .record-at .ensures)
+          (c .before .before .before .before .before .before .before .before .before .before .before .behind .ensures)
+          (c .before .before .before .before .before .before .before .before .before .before .if1 .left),
+    )
 
 loop-again : tie.Need-loop-again Inv-loop μ-loop
-loop-again c = playing-on (c .before .before .before .before .before .before .before .before .before .before .before .before .before .loop .inv) (c .before .before .before .before .before .before .before .before .before .before .before .before .record-at .ensures) (c .before .before .before .before .before .before .before .before .before .before .before .behind .ensures) (c .before .before .before .before .before .before .before .before .before .before .if1 .left) (c .before .before .before .before .before .before .call .ensures) (c .before .before .before .before .before .before .call .kept .1 .0) (c .before .before .before .before .before .before .call .kept .1 .1 .1 .0) (c .before .before .before .before .before .before .call .kept .1 .1 .1 .1 .0)
+loop-again c =
+    let call = c .before .before .before .before .before .before .call in
+    playing-on (c .before .before .before .before .before .before .before .before .before .before .before .before .before .loop .inv)
+    (c .before .before .before .before .before .before .before .before .before .before .before .before .record-at .ensures)
+    (c .before .before .before .before .before .before .before .before .before .before .before .behind .ensures)
+    (c .before .before .before .before .before .before .before .before .before .before .if1 .left) (call .ensures) (call .kept .1 .0)
+    (call .kept .1 .1 .1 .0) (call .kept .1 .1 .1 .1 .0)
 
 pub run-spec : {M : Type 1} → statement M
 run-spec =

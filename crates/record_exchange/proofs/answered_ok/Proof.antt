@@ -7,7 +7,10 @@ use Rattle.record_exchange.proofs.answered_ok.Tie as tie
 
 returns : tie.Need-returns
 unfolding answeredOk
-returns c = rw (← c .before .before .before .before .byte-at .ensures, ← status-alone (c .before .before .before .before .byte-at .result) (c .before .before .before .put-status .last .0) (c .before .before .before .put-status .result) (c .before .before .before .put-status .ensures)) (c .equal .ensures)
+returns c =
+    let byte-at = c .before .before .before .before .byte-at in
+    let put-status = c .before .before .before .put-status in
+    rw (← byte-at .ensures, ← status-alone (byte-at .result) (put-status .last .0) (put-status .result) (put-status .ensures)) (c .equal .ensures)
 
 pub answered-ok-spec : {M : Type 1} → statement M
 answered-ok-spec =

@@ -11,11 +11,33 @@ returns c = rw (← c .before .before .before .before .before .byte-at .ensures,
 
 returns-2 : tie.Need-returns-2
 unfolding commandRead
-returns-2 c = rw (← c .before .before .before .before .before .before .before .byte-at .ensures, ← c .before .before .before .before .before .before .com-of .ensures, ← c .before .before .before .before .before .info-count .ensures, ← c .before .before .before .before .info-length .ensures, eq-eqb _ _ (c .before .before .before .if1 .left), ← c .before .before .answered-ok .ensures, not-true (c .before .before .answered-ok .result) (c .before .if2 .taken)) (c .idle2 .ensures)
+returns-2 c =
+    let answered-ok = c .before .before .answered-ok in
+    rw (
+      ← c .before .before .before .before .before .before .before .byte-at .ensures,
+      ← c .before .before .before .before .before .before .com-of .ensures,
+      ← c .before .before .before .before .before .info-count .ensures,
+      ← c .before .before .before .before .info-length .ensures,
+      eq-eqb _ _ (c .before .before .before .if1 .left),
+      ← answered-ok .ensures,
+      not-true
+          (answered-ok .result) (c .before .if2 .taken),
+    ) (c .idle2 .ensures)
 
 returns-3 : tie.Need-returns-3
 unfolding commandRead
-returns-3 c = rw (← c .before .before .before .before .before .before .before .byte-at .ensures, ← c .before .before .before .before .before .before .com-of .ensures, ← c .before .before .before .before .before .info-count .ensures, ← c .before .before .before .before .info-length .ensures, eq-eqb _ _ (c .before .before .before .if1 .left), ← c .before .before .answered-ok .ensures, not-false (c .before .before .answered-ok .result) (c .before .if2 .left)) (c .command-told .ensures)
+returns-3 c =
+    let answered-ok = c .before .before .answered-ok in
+    rw (
+      ← c .before .before .before .before .before .before .before .byte-at .ensures,
+      ← c .before .before .before .before .before .before .com-of .ensures,
+      ← c .before .before .before .before .before .info-count .ensures,
+      ← c .before .before .before .before .info-length .ensures,
+      eq-eqb _ _ (c .before .before .before .if1 .left),
+      ← answered-ok .ensures,
+      not-false
+          (answered-ok .result) (c .before .if2 .left),
+    ) (c .command-told .ensures)
 
 pub read-command-spec : {M : Type 1} → statement M
 read-command-spec =

@@ -23,22 +23,30 @@ part-replay-exchange-start-2 : tie.Need-part-replay-exchange-start-2
 part-replay-exchange-start-2 c = omega (arith, waited (c .before .before .before .before .before .before .before .pre .0) (c .before .before .before .waiting .given .1), found-device _ _ _ (c .before .before .before .before .before .before .before .pre .1))
 
 part-replay-exchange-end-2 : tie.Need-part-replay-exchange-end-2
-part-replay-exchange-end-2 c = omega (arith, waited (c .before .before .before .before .before .before .before .pre .0) (c .before .before .before .waiting .given .1), found-device _ _ _ (c .before .before .before .before .before .before .before .pre .1), c .before .before .before .before .before .before .before .pre .0 .inside)
+part-replay-exchange-end-2 c =
+    let pre = c .before .before .before .before .before .before .before .pre in
+    omega (arith, waited (pre .0) (c .before .before .before .waiting .given .1), found-device _ _ _ (pre .1), pre .0 .inside)
 
 replay-exchange-requires : tie.Need-replay-exchange-requires
-replay-exchange-requires c κs = let a = c .before .before .before .before .before .before .before .before .args in
-    let w = waited (c .before .before .before .before .before .before .before .before .pre .0) (c .before .before .before .before .waiting .given .1) in
-    can-move (a .head .landing) (4294967295 + c .before .before .before .before .waiting .given .0 .0 .from) _ (w .2) (omega (arith, w, found-device _ _ _ (c .before .before .before .before .before .before .before .before .pre .1), c .before .before .before .before .before .before .before .before .pre .0 .inside))
+replay-exchange-requires c κs =
+    let pre = c .before .before .before .before .before .before .before .before .pre in
+    let waiting = c .before .before .before .before .waiting in
+    let a = c .before .before .before .before .before .before .before .before .args in
+    let w = waited (pre .0) (waiting .given .1) in
+    can-move (a .head .landing) (4294967295 + waiting .given .0 .0 .from) _ (w .2) (omega (arith, w, found-device _ _ _ (pre .1), pre .0 .inside))
 
 returns : tie.Need-returns
 returns c = let a = c .before .before .before .before .args in
     device-alone (a .profile) (a .recording .now) (a .image .now) (a .head) (c .before .before .before .before .pre .0) (a .part) (c .before .before .before .before .pre .1) (c .enum-told .given .1)
 
 returns-2 : tie.Need-returns-2
-returns-2 c = let a = c .before .before .before .before .before .before .before .before .before .before .before .args in
+returns-2 c =
+    let pre = c .before .before .before .before .before .before .before .before .before .before .before .pre in
+    let a = c .before .before .before .before .before .before .before .before .before .before .before .args in
     let w = c .before .before .before .before .before .before .before .waiting .given in
-    device-answers (a .profile) (a .recording .now) (a .image .now) (a .head) (c .before .before .before .before .before .before .before .before .before .before .before .pre .0) (a .part) (w .0 .0) _ _ (c .before .before .before .before .before .before .before .before .before .before .before .pre .1) (w .1)
-    (λ i. c .before .before .before .before .before .before .before .before .before .shared-slice-known .given i .fits) (c .before .before .replay-exchange .ensures)
+    device-answers (a .profile) (a .recording .now) (a .image .now) (a .head) (pre .0) (a .part) (w .0 .0) _ _ (pre .1) (w .1)
+    (λ i. c .before .before .before .before .before .before .before .before .before .shared-slice-known .given i .fits)
+    (c .before .before .replay-exchange .ensures)
 
 pub answered-spec : {M : Type 1} → statement M
 answered-spec =

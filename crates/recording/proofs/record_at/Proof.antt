@@ -21,19 +21,44 @@ sub-if3 : tie.Need-sub-if3
 sub-if3 c = omega (arith, fits (c .before .before .before .before .before .args .recording .now) (c .before .before .before .before .before .args .at) (c .before .before .before .if1 .left) _ (c .before .before .has-head .ensures) (c .before .if2 .left))
 
 returns-3 : tie.Need-returns-3
-returns-3 c = found-long (c .before .before .before .before .before .before .args .recording .now) (c .before .before .before .before .before .before .args .at) (c .before .before .before .before .if1 .left) _ (c .before .before .before .has-head .ensures) (c .before .before .if2 .left) _ (c .before .count-at .ensures) (omega (arith, c .if3 .taken))
+returns-3 c =
+    let a = c .before .before .before .before .before .before .args in
+    found-long (a .recording .now) (a .at) (c .before .before .before .before .if1 .left) _ (c .before .before .before .has-head .ensures)
+    (c .before .before .if2 .left) _ (c .before .count-at .ensures) (omega (arith, c .if3 .taken))
 
 add-by-direction : tie.Need-add-by-direction
-add-by-direction c = omega (arith, fits (c .before .before .before .before .before .before .args .recording .now) (c .before .before .before .before .before .before .args .at) (c .before .before .before .before .if1 .left) _ (c .before .before .before .has-head .ensures) (c .before .before .if2 .left))
+add-by-direction c =
+    let a = c .before .before .before .before .before .before .args in
+    omega (
+      arith,
+      fits (a .recording .now) (a .at) (c .before .before .before .before .if1 .left) _ (c .before .before .before .has-head .ensures)
+          (c .before .before .if2 .left),
+    )
 
 shared-slice-read-by-direction : tie.Need-shared-slice-read-by-direction
-shared-slice-read-by-direction c = omega (arith, fits (c .before .before .before .before .before .before .before .args .recording .now) (c .before .before .before .before .before .before .before .args .at) (c .before .before .before .before .before .if1 .left) _ (c .before .before .before .before .has-head .ensures) (c .before .before .before .if2 .left))
+shared-slice-read-by-direction c =
+    let a = c .before .before .before .before .before .before .before .args in
+    omega (
+      arith,
+      fits (a .recording .now) (a .at) (c .before .before .before .before .before .if1 .left) _
+          (c .before .before .before .before .has-head .ensures) (c .before .before .before .if2 .left),
+    )
 
 add-t11 : tie.Need-add-t11
-add-t11 c = omega (arith, fits (c .before .before .before .before .before .before .before .args .recording .now) (c .before .before .before .before .before .before .before .args .at) (c .before .before .before .before .before .if1 .left) _ (c .before .before .before .before .has-head .ensures) (c .before .before .before .if2 .left))
+add-t11 c =
+    let a = c .before .before .before .before .before .before .before .args in
+    omega (
+      arith,
+      fits (a .recording .now) (a .at) (c .before .before .before .before .before .if1 .left) _
+          (c .before .before .before .before .has-head .ensures) (c .before .before .before .if2 .left),
+    )
 
 returns-4 : tie.Need-returns-4
-returns-4 c = found-directed (c .before .before .before .before .before .before .before .before .args .recording .now) (c .before .before .before .before .before .before .before .before .args .at) (c .before .before .before .before .before .before .if1 .left) _ (c .before .before .before .before .before .has-head .ensures) (c .before .before .before .before .if2 .left) _ (c .before .before .before .count-at .ensures) (omega (arith, c .before .before .if3 .left)) _ (c .by-direction .ensures)
+returns-4 c =
+    let a = c .before .before .before .before .before .before .before .before .args in
+    found-directed (a .recording .now) (a .at) (c .before .before .before .before .before .before .if1 .left) _
+    (c .before .before .before .before .before .has-head .ensures) (c .before .before .before .before .if2 .left) _
+    (c .before .before .before .count-at .ensures) (omega (arith, c .before .before .if3 .left)) _ (c .by-direction .ensures)
 
 pub record-at-spec : {M : Type 1} → statement M
 record-at-spec =

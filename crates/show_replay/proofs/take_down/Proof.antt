@@ -3,7 +3,7 @@ use mathlib.Core.Path.{_≡_}
 use Prim.Native.Nat.{_-_}
 use lib.ListN.{length}
 use native.Mathlib.Omega.{arith}
-use Rattle.record_driver.proofs.Playing.{inside}
+use Rattle.recording.proofs.Reading.{inside}
 use Rattle.show_replay.proofs.Onward.{onward}
 use borrow.Author.Needs.{needs}
 use Rattle.show_replay.proofs.take_down.Statement.{statement}

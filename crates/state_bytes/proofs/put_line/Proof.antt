@@ -9,7 +9,10 @@ same-length : tie.Need-same-length
 same-length c = simp (c .before .before .write-four .kept .0, length-set)
 
 returns : tie.Need-returns
-returns c = line-put (c .before .before .before .before .before .args .line) (c .before .before .before .before .before .args .held) (c .before .before .before .before .before .args .bytes .now) (c .before .before .write-four .last .0) (c .before .before .before .before .before .pre) (c .before .before .write-four .ensures .leaves)
+returns c =
+    let a = c .before .before .before .before .before .args in
+    let write-four = c .before .before .write-four in
+    line-put (a .line) (a .held) (a .bytes .now) (write-four .last .0) (c .before .before .before .before .before .pre) (write-four .ensures .leaves)
 
 pub put-line-spec : {M : Type 1} → statement M
 put-line-spec =

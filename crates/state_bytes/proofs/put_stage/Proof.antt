@@ -9,7 +9,16 @@ same-length : tie.Need-same-length
 same-length c = simp (c .before .before .write-four2 .kept .0, c .before .before .before .before .before .before .write-four .kept .0, length-set)
 
 returns : tie.Need-returns
-returns c = stage-put (c .before .before .before .before .before .before .before .before .before .before .before .before .args .stage) (c .before .before .before .before .before .before .before .before .before .before .before .before .args .bytes .now) (c .before .before .before .before .before .before .write-four .last .0) (c .before .before .write-four2 .last .0) (c .before .before .before .before .before .before .before .before .before .stage-number .result) (c .before .before .before .before .before .before .before .before .pulses-of .result) (c .before .before .before .before .before .before .before .before .before .before .range-of .result) (c .before .before .before .before .before .before .before .before .before .before .before .before .pre) (c .before .before .before .before .before .before .before .before .before .stage-number .ensures) (c .before .before .before .before .before .before .before .before .pulses-of .ensures) (c .before .before .before .before .before .before .before .before .before .before .range-of .ensures) (c .before .before .before .before .before .before .write-four .ensures .leaves) (c .before .before .write-four2 .ensures .leaves)
+returns c =
+    let a = c .before .before .before .before .before .before .before .before .before .before .before .before .args in
+    let range-of = c .before .before .before .before .before .before .before .before .before .before .range-of in
+    let stage-number = c .before .before .before .before .before .before .before .before .before .stage-number in
+    let pulses-of = c .before .before .before .before .before .before .before .before .pulses-of in
+    let write-four = c .before .before .before .before .before .before .write-four in
+    let write-four2 = c .before .before .write-four2 in
+    stage-put (a .stage) (a .bytes .now) (write-four .last .0) (write-four2 .last .0) (stage-number .result) (pulses-of .result) (range-of .result)
+    (c .before .before .before .before .before .before .before .before .before .before .before .before .pre) (stage-number .ensures) (pulses-of .ensures)
+    (range-of .ensures) (write-four .ensures .leaves) (write-four2 .ensures .leaves)
 
 pub put-stage-spec : {M : Type 1} → statement M
 put-stage-spec =

@@ -9,7 +9,14 @@ returns : tie.Need-returns
 returns c = simp (ne-eqb _ _ (c .if1 .taken))
 
 returns-2 : tie.Need-returns-2
-returns-2 c = rw (eq-eqb _ _ (c .before .before .before .before .before .before .before .before .before .before .before .before .before .before .if1 .left)) (state-put (c .before .before .before .before .before .before .before .before .before .before .before .before .before .before .before .before .args .state) (c .before .before .before .before .before .before .before .before .before .before .before .before .before .before .before .before .args .bytes .now) (c .before .before .before .before .before .before .before .before .before .before .put-stage .last .0) (c .before .before .before .before .before .before .put-id .last .0) (c .before .before .put-line .last .0) (c .before .before .before .before .before .before .before .before .before .before .before .before .before .before .if1 .left) (search needs) (c .before .before .before .before .before .before .before .before .before .before .put-stage .ensures) (c .before .before .before .before .before .before .put-id .ensures) (c .before .before .put-line .ensures))
+returns-2 c =
+    let a = c .before .before .before .before .before .before .before .before .before .before .before .before .before .before .before .before .args in
+    let if1 = c .before .before .before .before .before .before .before .before .before .before .before .before .before .before .if1 in
+    let put-stage = c .before .before .before .before .before .before .before .before .before .before .put-stage in
+    let put-id = c .before .before .before .before .before .before .put-id in
+    let put-line = c .before .before .put-line in
+    rw (eq-eqb _ _ (if1 .left)) (state-put (a .state) (a .bytes .now) (put-stage .last .0) (put-id .last .0) (put-line .last .0) (if1 .left)
+    (search needs) (put-stage .ensures) (put-id .ensures) (put-line .ensures))
 
 pub put-state-spec : {M : Type 1} → statement M
 put-state-spec =

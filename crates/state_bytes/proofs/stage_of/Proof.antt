@@ -28,11 +28,32 @@ returns-5 c = simp (ne-eqb _ _ (c .before .before .before .if1 .left), eq-eqb _ 
 
 returns-6 : tie.Need-returns-6
 unfolding stageOf
-returns-6 c = simp (ne-eqb _ _ (c .before .before .before .before .before .if1 .left), eq-eqb _ _ (c .before .before .before .before .if3 .left), ne-eqb _ _ (c .before .before .before .if4 .left), ne-eqb _ _ (c .before .before .if5 .left), sym (c .before .is-none2 .ensures), not-true (c .before .is-none2 .result) (c .if6 .taken))
+returns-6 c =
+    simp (
+      ne-eqb _ _ (c .before .before .before .before .before .if1 .left),
+      eq-eqb _ _ (c .before .before .before .before .if3 .left),
+      ne-eqb _ _
+          (c .before .before .before .if4 .left),
+      ne-eqb _ _ (c .before .before .if5 .left),
+      sym (c .before .is-none2 .ensures),
+      not-true
+          (c .before .is-none2 .result) (c .if6 .taken),
+    )
 
 returns-7 : tie.Need-returns-7
 unfolding stageOf
-returns-7 c = simp (ne-eqb _ _ (c .before .before .before .before .before .before .if1 .left), eq-eqb _ _ (c .before .before .before .before .before .if3 .left), ne-eqb _ _ (c .before .before .before .before .if4 .left), ne-eqb _ _ (c .before .before .before .if5 .left), sym (c .before .before .is-none2 .ensures), not-false (c .before .before .is-none2 .result) (c .before .if6 .left), eq-eqb _ _ (c .match .keys1))
+returns-7 c =
+    let is-none2 = c .before .before .is-none2 in
+    simp (
+      ne-eqb _ _ (c .before .before .before .before .before .before .if1 .left),
+      eq-eqb _ _ (c .before .before .before .before .before .if3 .left),
+      ne-eqb _ _ (c .before .before .before .before .if4 .left),
+      ne-eqb _ _ (c .before .before .before .if5 .left),
+      sym (is-none2 .ensures),
+      not-false
+          (is-none2 .result) (c .before .if6 .left),
+      eq-eqb _ _ (c .match .keys1),
+    )
 
 returns-8 : tie.Need-returns-8
 unfolding stageOf
@@ -40,7 +61,19 @@ returns-8 c = simp (eq-eqb _ _ (c .before .before .before .before .before .if3 .
 
 returns-9 : tie.Need-returns-9
 unfolding stageOf
-returns-9 c = simp (ne-eqb _ _ (c .before .before .before .before .before .before .if1 .left), eq-eqb _ _ (c .before .before .before .before .before .if3 .left), ne-eqb _ _ (c .before .before .before .before .if4 .left), ne-eqb _ _ (c .before .before .before .if5 .left), sym (c .before .before .is-none2 .ensures), not-false (c .before .before .is-none2 .result) (c .before .if6 .left), ne-eqb _ _ (c .match .rest .0 .1), ne-eqb _ _ (c .match .rest .1))
+returns-9 c =
+    let is-none2 = c .before .before .is-none2 in
+    simp (
+      ne-eqb _ _ (c .before .before .before .before .before .before .if1 .left),
+      eq-eqb _ _ (c .before .before .before .before .before .if3 .left),
+      ne-eqb _ _ (c .before .before .before .before .if4 .left),
+      ne-eqb _ _ (c .before .before .before .if5 .left),
+      sym (is-none2 .ensures),
+      not-false
+          (is-none2 .result) (c .before .if6 .left),
+      ne-eqb _ _ (c .match .rest .0 .1),
+      ne-eqb _ _ (c .match .rest .1),
+    )
 
 pub stage-of-spec : {M : Type 1} → statement M
 stage-of-spec =

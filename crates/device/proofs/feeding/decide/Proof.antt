@@ -12,19 +12,34 @@ answer-next-requires : tie.Need-answer-next-requires
 answer-next-requires c κs = (range-at _ _ (c .before .before .stage2 .given .1) (c .before .before .before .before .before .before .before .pre .1), c .before .before .before .before .before .before .before .pre .2)
 
 returns : tie.Need-returns
-returns c = answers-as (answer-at (c .before .before .before .before .before .before .before .before .before .args .profile) (c .before .before .before .before .before .before .before .before .before .args .image .now) (c .before .before .before .before .before .before .before .before .before .args .state) (c .before .before .before .before .before .before .before .before .before .args .packet .now) (c .before .before .before .before .enum-told .given .1)) (c .before .before .answer-command .ensures)
+returns c =
+    let a = c .before .before .before .before .before .before .before .before .before .args in
+    answers-as (answer-at (a .profile) (a .image .now) (a .state) (a .packet .now) (c .before .before .before .before .enum-told .given .1))
+    (c .before .before .answer-command .ensures)
 
 returns-2 : tie.Need-returns-2
-returns-2 c = answers-as (answer-at (c .before .before .before .before .before .before .before .before .before .args .profile) (c .before .before .before .before .before .before .before .before .before .args .image .now) (c .before .before .before .before .before .before .before .before .before .args .state) (c .before .before .before .before .before .before .before .before .before .args .packet .now) (c .before .before .before .before .enum-told2 .given .1)) (c .before .before .answer-command2 .ensures)
+returns-2 c =
+    let a = c .before .before .before .before .before .before .before .before .before .args in
+    answers-as (answer-at (a .profile) (a .image .now) (a .state) (a .packet .now) (c .before .before .before .before .enum-told2 .given .1))
+    (c .before .before .answer-command2 .ensures)
 
 returns-3 : tie.Need-returns-3
-returns-3 c = answers-as (answer-at (c .before .before .before .before .before .before .before .before .before .args .profile) (c .before .before .before .before .before .before .before .before .before .args .image .now) (c .before .before .before .before .before .before .before .before .before .args .state) (c .before .before .before .before .before .before .before .before .before .args .packet .now) (c .before .before .before .before .enum-told3 .given .1)) (c .before .before .answer-command3 .ensures)
+returns-3 c =
+    let a = c .before .before .before .before .before .before .before .before .before .args in
+    answers-as (answer-at (a .profile) (a .image .now) (a .state) (a .packet .now) (c .before .before .before .before .enum-told3 .given .1))
+    (c .before .before .answer-command3 .ensures)
 
 returns-4 : tie.Need-returns-4
-returns-4 c = answers-as (answer-at (c .before .before .before .before .before .before .before .before .before .before .args .profile) (c .before .before .before .before .before .before .before .before .before .before .args .image .now) (c .before .before .before .before .before .before .before .before .before .before .args .state) (c .before .before .before .before .before .before .before .before .before .before .args .packet .now) (c .before .before .before .before .before .stage .given .1)) (c .before .before .answer-write .ensures)
+returns-4 c =
+    let a = c .before .before .before .before .before .before .before .before .before .before .args in
+    answers-as (answer-at (a .profile) (a .image .now) (a .state) (a .packet .now) (c .before .before .before .before .before .stage .given .1))
+    (c .before .before .answer-write .ensures)
 
 returns-5 : tie.Need-returns-5
-returns-5 c = answers-as (answer-at (c .before .before .before .before .before .before .before .before .before .before .args .profile) (c .before .before .before .before .before .before .before .before .before .before .args .image .now) (c .before .before .before .before .before .before .before .before .before .before .args .state) (c .before .before .before .before .before .before .before .before .before .before .args .packet .now) (c .before .before .before .before .before .stage2 .given .1)) (c .before .before .answer-next .ensures)
+returns-5 c =
+    let a = c .before .before .before .before .before .before .before .before .before .before .args in
+    answers-as (answer-at (a .profile) (a .image .now) (a .state) (a .packet .now) (c .before .before .before .before .before .stage2 .given .1))
+    (c .before .before .answer-next .ensures)
 
 pub decide-spec : {M : Type 1} → statement M
 decide-spec =

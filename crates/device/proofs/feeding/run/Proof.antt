@@ -8,16 +8,40 @@ use Rattle.device.proofs.feeding.run.Statement.{statement}
 use Rattle.device.proofs.feeding.run.Tie as tie
 
 returns : tie.Need-returns
-returns c = ran-end (turned-first (c .before .before .before .before .before .before .before .before .before .before .args .profile) (buffers (c .before .before .before .before .before .before .before .before .before .before .args .image .now) (c .before .before .before .before .before .before .before .before .before .before .args .receive .now) (c .before .before .before .before .before .before .before .before .before .before .args .reply .now)) (c .before .before .before .before .before .before .before .before .before .before .args .input .now) (c .before .before .before .before .before .before .before .before .before .before .args .state) _ _ (c .before .before .before .before .before .before .before .before .before .before .pre) (c .before .before .before .before .add .ensures) (c .before .with-held .ensures)) refl (c .if1 .taken)
+returns c =
+    let a = c .before .before .before .before .before .before .before .before .before .before .args in
+    ran-end (turned-first (a .profile) (buffers (a .image .now) (a .receive .now) (a .reply .now)) (a .input .now) (a .state) _ _
+    (c .before .before .before .before .before .before .before .before .before .before .pre) (c .before .before .before .before .add .ensures)
+    (c .before .with-held .ensures)) refl (c .if1 .taken)
 
 turns-requires : tie.Need-turns-requires
-turns-requires c κs = (turned-first (c .before .before .before .before .before .before .before .before .before .before .before .before .before .before .args .profile) (buffers (c .before .before .before .before .before .before .before .before .before .before .before .before .before .before .args .image .now) (c .before .before .before .before .before .before .before .before .before .before .before .before .before .before .args .receive .now) (c .before .before .before .before .before .before .before .before .before .before .before .before .before .before .args .reply .now)) (c .before .before .before .before .before .before .before .before .before .before .before .before .before .before .args .input .now) (c .before .before .before .before .before .before .before .before .before .before .before .before .before .before .args .state) _ _ (c .before .before .before .before .before .before .before .before .before .before .before .before .before .before .pre) (c .before .before .before .before .before .before .before .before .add .ensures) (c .before .before .before .before .before .with-held .ensures)) .ready
+turns-requires c κs =
+    let a = c .before .before .before .before .before .before .before .before .before .before .before .before .before .before .args in
+    (turned-first (a .profile) (buffers (a .image .now) (a .receive .now) (a .reply .now)) (a .input .now) (a .state) _ _
+    (c .before .before .before .before .before .before .before .before .before .before .before .before .before .before .pre)
+    (c .before .before .before .before .before .before .before .before .add .ensures)
+    (c .before .before .before .before .before .with-held .ensures)) .ready
 
 add-t15 : tie.Need-add-t15
-add-t15 c = omega (arith, rest-fits (turned-first (c .before .before .before .before .before .before .before .before .before .before .before .before .before .before .before .before .before .before .before .before .before .before .before .args .profile) (buffers (c .before .before .before .before .before .before .before .before .before .before .before .before .before .before .before .before .before .before .before .before .before .before .before .args .image .now) (c .before .before .before .before .before .before .before .before .before .before .before .before .before .before .before .before .before .before .before .before .before .before .before .args .receive .now) (c .before .before .before .before .before .before .before .before .before .before .before .before .before .before .before .before .before .before .before .before .before .before .before .args .reply .now)) (c .before .before .before .before .before .before .before .before .before .before .before .before .before .before .before .before .before .before .before .before .before .before .before .args .input .now) (c .before .before .before .before .before .before .before .before .before .before .before .before .before .before .before .before .before .before .before .before .before .before .before .args .state) _ _ (c .before .before .before .before .before .before .before .before .before .before .before .before .before .before .before .before .before .before .before .before .before .before .before .pre) (c .before .before .before .before .before .before .before .before .before .before .before .before .before .before .before .before .before .add .ensures) (c .before .before .before .before .before .before .before .before .before .before .before .before .before .before .with-held .ensures)) (c .before .before .before .before .before .before .before .before .turns .ensures), c .before .before .before .before .before .before .before .before .before .before .before .before .before .before .before .before .before .before .before .before .before .before .before .good .1 .1 .1 .1 .1)
+add-t15 c =
+    let a = c .before .before .before .before .before .before .before .before .before .before .before .before .before .before .before .before .before .before .before .before .before .before .before .args in
+    omega (
+      arith,
+      rest-fits
+          (turned-first (a .profile) (buffers (a .image .now) (a .receive .now) (a .reply .now)) (a .input .now) (a .state) _ _ (c .before .before .before .before .before .before .before .before .before .before .before .before .before .before .before .before .before .before .before .before .before .before .before .pre) (c .before .before .before .before .before .before .before .before .before .before .before .before .before .before .before .before .before .add .ensures) (c .before .before .before .before .before .before .before .before .before .before .before .before .before .before .with-held .ensures))
+          (c .before .before .before .before .before .before .before .before .turns .ensures),
+      c .before .before .before .before .before .before .before .before .before .before .before .before .before .before .before .before .before .before .before .before .before .before .before .good .1 .1 .1 .1 .1,
+    )
 
 returns-2 : tie.Need-returns-2
-returns-2 c = ran-rest (turned-first (c .before .before .before .before .before .before .before .before .before .before .before .before .before .before .before .before .before .before .before .before .before .before .before .args .profile) (buffers (c .before .before .before .before .before .before .before .before .before .before .before .before .before .before .before .before .before .before .before .before .before .before .before .args .image .now) (c .before .before .before .before .before .before .before .before .before .before .before .before .before .before .before .before .before .before .before .before .before .before .before .args .receive .now) (c .before .before .before .before .before .before .before .before .before .before .before .before .before .before .before .before .before .before .before .before .before .before .before .args .reply .now)) (c .before .before .before .before .before .before .before .before .before .before .before .before .before .before .before .before .before .before .before .before .before .before .before .args .input .now) (c .before .before .before .before .before .before .before .before .before .before .before .before .before .before .before .before .before .before .before .before .before .before .before .args .state) _ _ (c .before .before .before .before .before .before .before .before .before .before .before .before .before .before .before .before .before .before .before .before .before .before .before .pre) (c .before .before .before .before .before .before .before .before .before .before .before .before .before .before .before .before .before .add .ensures) (c .before .before .before .before .before .before .before .before .before .before .before .before .before .before .with-held .ensures)) (c .before .before .before .before .before .before .before .before .before .before .before .before .before .if1 .left) (c .before .before .before .before .before .before .before .before .turns .ensures)
+returns-2 c =
+    let a = c .before .before .before .before .before .before .before .before .before .before .before .before .before .before .before .before .before .before .before .before .before .before .before .args in
+    ran-rest (turned-first (a .profile) (buffers (a .image .now) (a .receive .now) (a .reply .now)) (a .input .now) (a .state) _ _
+    (c .before .before .before .before .before .before .before .before .before .before .before .before .before .before .before .before .before .before .before .before .before .before .before .pre)
+    (c .before .before .before .before .before .before .before .before .before .before .before .before .before .before .before .before .before .add .ensures)
+    (c .before .before .before .before .before .before .before .before .before .before .before .before .before .before .with-held .ensures))
+    (c .before .before .before .before .before .before .before .before .before .before .before .before .before .if1 .left)
+    (c .before .before .before .before .before .before .before .before .turns .ensures)
 
 pub run-spec : {M : Type 1} → statement M
 run-spec =

@@ -10,7 +10,12 @@ listen-requires : tie.Need-listen-requires
 listen-requires c κs = (c .before .before .before .before .before .before .before .before .before .pre, sym (c .before .before .before .before .before .awaits .ensures) ∙ c .before .before .before .awaited2 .given .1)
 
 returns : tie.Need-returns
-returns c = stood-waking (c .before .before .before .before .before .before .before .before .before .before .before .args .profile) (c .before .before .before .before .before .before .before .before .before .before .before .args .state) (buffers (c .before .before .before .before .before .before .before .before .before .before .before .args .image .now) (c .before .before .before .before .before .before .before .before .before .before .before .args .receive .now) (c .before .before .before .before .before .before .before .before .before .before .before .args .reply .now)) (c .before .before .before .before .before .before .before .before .before .before .before .args .byte) (c .before .before .before .before .before .before .before .before .before .before .before .pre) _ _ _ (sym (c .before .before .before .before .before .before .before .awaits .ensures) ∙ c .before .before .before .before .before .awaited .given .1) (c .before .before .wake .ensures)
+returns c =
+    let a = c .before .before .before .before .before .before .before .before .before .before .before .args in
+    stood-waking (a .profile) (a .state) (buffers (a .image .now) (a .receive .now) (a .reply .now)) (a .byte)
+    (c .before .before .before .before .before .before .before .before .before .before .before .pre) _ _ _
+    (sym (c .before .before .before .before .before .before .before .awaits .ensures) ∙ c .before .before .before .before .before .awaited .given .1)
+    (c .before .before .wake .ensures)
 
 pub step-spec : {M : Type 1} → statement M
 step-spec =

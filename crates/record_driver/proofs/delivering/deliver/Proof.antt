@@ -27,13 +27,31 @@ part-feed-end : tie.Need-part-feed-end Inv-loop μ-loop
 part-feed-end c = omega arith
 
 add-at : tie.Need-add-at Inv-loop μ-loop
-add-at c = omega (arith, stays (c .before .before .before .before .before .before .before .before .before .before .before .before .before .loop .inv) _ _ (c .before .before .before .before .before .before .before .before .before .before .before .before .loop-test .taken) (c .before .before .before .before .before .before .before .feed .ensures), c .before .before .before .before .before .before .before .before .before .before .before .before .before .before .before .before .before .before .good .1 .1 .1 .1 .1)
+add-at c =
+    omega (
+      arith,
+      stays (c .before .before .before .before .before .before .before .before .before .before .before .before .before .loop .inv) _ _
+          (c .before .before .before .before .before .before .before .before .before .before .before .before .loop-test .taken)
+          (c .before .before .before .before .before .before .before .feed .ensures),
+      c .before .before .before .before .before .before .before .before .before .before .before .before .before .before .before .before .before .before .good .1 .1 .1 .1 .1,
+    )
 
 loop-less : tie.Need-loop-less Inv-loop μ-loop
-loop-less c = omega (arith, goes-on (c .before .before .before .before .before .before .before .before .before .before .before .before .before .loop .inv) _ _ (c .before .before .before .before .before .before .before .before .before .before .before .before .loop-test .taken) (c .before .before .before .before .before .before .before .feed .ensures), c .before .before .before .before .before .before .before .before .before .before .before .before .loop-test .taken)
+loop-less c =
+    let loop-test = c .before .before .before .before .before .before .before .before .before .before .before .before .loop-test in
+    omega (
+      arith,
+      goes-on (c .before .before .before .before .before .before .before .before .before .before .before .before .before .loop .inv) _ _
+          (loop-test .taken) (c .before .before .before .before .before .before .before .feed .ensures),
+      loop-test .taken,
+    )
 
 loop-again : tie.Need-loop-again Inv-loop μ-loop
-loop-again c = hearing-on (c .before .before .before .before .before .before .before .before .before .before .before .before .before .loop .inv) _ _ (c .before .before .before .before .before .before .before .before .before .before .before .before .loop-test .taken) (c .before .before .before .before .before .before .before .feed .ensures) (c .before .before .before .before .before .before .before .feed .kept .1 .0) (c .before .before .before .before .before .before .before .feed .kept .1 .1 .1 .0) (c .before .before .before .before .before .before .before .feed .kept .1 .1 .1 .1 .0)
+loop-again c =
+    let feed = c .before .before .before .before .before .before .before .feed in
+    hearing-on (c .before .before .before .before .before .before .before .before .before .before .before .before .before .loop .inv) _ _
+    (c .before .before .before .before .before .before .before .before .before .before .before .before .loop-test .taken) (feed .ensures)
+    (feed .kept .1 .0) (feed .kept .1 .1 .1 .0) (feed .kept .1 .1 .1 .1 .0)
 
 same-length : tie.Need-same-length Inv-loop μ-loop
 same-length c = c .before .loop .inv .image

@@ -20,7 +20,14 @@ returns-2 c = simp (le-leb _ _ (c .before .before .before .before .if1 .left), �
 
 returns-3 : tie.Need-returns-3
 unfolding fitsOf
-returns-3 c = simp (le-leb _ _ (c .before .before .before .before .before .before .if1 .left), ← c .before .before .before .before .before .awaits .ensures, sym (c .before .before .before .held-fits .ensures) ∙ not-false _ (c .before .before .if2 .left), ← c .before .window .ensures) (c .stage-fits .ensures)
+returns-3 c =
+    simp (
+      le-leb _ _ (c .before .before .before .before .before .before .if1 .left),
+      ← c .before .before .before .before .before .awaits .ensures,
+      sym
+          (c .before .before .before .held-fits .ensures) ∙ not-false _ (c .before .before .if2 .left),
+      ← c .before .window .ensures,
+    ) (c .stage-fits .ensures)
 
 pub fits-spec : {M : Type 1} → statement M
 fits-spec =

@@ -24,7 +24,9 @@ returns-3 c =
 returns-4 : tie.Need-returns-4
 returns-4 c =
     let a = c .before .before .before .before .before .before .before .before .before .before .before .args in
-    by-place (areasOf (a .profile)) (a .window) (a .purpose) (a .range) (c .before .before .before .before .before .before .before .before .before .if1 .left) (c .before .before .before .before .before .before .if2 .left) _ (sym (c .before .before .before .before .before .locate .ensures .is) ∙ c .before .before .before .place .given .1) _ (c .within .ensures)
+    by-place (areasOf (a .profile)) (a .window) (a .purpose) (a .range)
+    (c .before .before .before .before .before .before .before .before .before .if1 .left) (c .before .before .before .before .before .before .if2 .left)
+    _ (sym (c .before .before .before .before .before .locate .ensures .is) ∙ c .before .before .before .place .given .1) _ (c .within .ensures)
 
 pub range-fits-spec : {M : Type 1} → statement M
 range-fits-spec =
