@@ -56,22 +56,22 @@ fn above(a: usize, b: usize) -> usize
     if b < a { a - b } else { 0 }
 }
 
-// Where the bytes of the area below an address end, in an image of `length` bytes; `base` is the place of the area's first byte.
-fn border(area: Area, base: usize, length: usize, address: usize) -> usize
+// Where the bytes of the area below an address end, in an image of `size` bytes; `base` is the place of the area's first byte.
+fn border(area: Area, base: usize, size: usize, address: usize) -> usize
     requires { ⌜ base ≤ 34359738368 ⌝ }
-    ensures { λ r. ⌜ r ≡ min (base + bytesBelow area address) length ⌝ }
+    ensures { λ r. ⌜ r ≡ min (base + bytesBelow area address) size ⌝ }
 {
     let below = lower(address, area.ead as usize + 1);
-    lower(base + above(below, area.sad as usize), length)
+    lower(base + above(below, area.sad as usize), size)
 }
 
 // The part that holds the addresses from `first` up to, not including, `behind`, of those that the area has.
-fn overlap(area: Area, base: usize, length: usize, first: usize, behind: usize) -> Part
+fn overlap(area: Area, base: usize, size: usize, first: usize, behind: usize) -> Part
     requires { ⌜ base ≤ 34359738368 ⌝ }
-    ensures { λ r. ⌜ Meets area base length first behind (r .from) (r .to) ⌝ }
+    ensures { λ r. ⌜ Meets area base size first behind (r .from) (r .to) ⌝ }
 {
-    let to = border(area, base, length, behind);
-    let from = lower(border(area, base, length, first), to);
+    let to = border(area, base, size, behind);
+    let from = lower(border(area, base, size, first), to);
     Part { from, to }
 }
 

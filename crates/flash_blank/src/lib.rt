@@ -13,16 +13,12 @@ pub enum Search {
     Dirty(usize),
 }
 
-// The end of the unit at `at`: the last one may be short.
-fn unit_end(at: usize, step: usize, length: usize) -> usize
-    requires { ⌜ at ≤ length ⌝ }
-    ensures { λ r. ⌜ r ≡ min (at + step) length ⌝ }
+// Where the unit at `at` ends, of bytes that end at `end`: the last one may be short.
+fn unit_end(at: usize, step: usize, end: usize) -> usize
+    requires { ⌜ at ≤ end ⌝ }
+    ensures { λ r. ⌜ r ≡ min (at + step) end ⌝ }
 {
-    if step < length - at {
-        at + step
-    } else {
-        length
-    }
+    if step < end - at { at + step } else { end }
 }
 
 // Whether all bytes are FFh. It looks at each one and never leaves early, so that the compiler can take many at once.

@@ -144,12 +144,12 @@ pub extern "C" fn indraveck_payload(
     receive: &[u8],
     count: usize,
     start: &mut u64,
-    length: &mut u64,
+    size: &mut u64,
 ) -> u32
-    ensures { λ r. ⌜ Handed (now (receive .entry)) count r (now (start .exit)) (now (length .exit)) ⌝ }
+    ensures { λ r. ⌜ Handed (now (receive .entry)) count r (now (start .exit)) (now (size .exit)) ⌝ }
 {
     let part = packet::payload(receive, count);
-    *length = part.len() as u64;
+    *size = part.len() as u64;
     if part.len() == 0 {
         *start = 0;
         return 0;

@@ -8,7 +8,7 @@ use Rattle.flash.proofs.overlap.Tie as tie
 returns : tie.Need-returns
 returns c =
     let a = c .before .before .before .args in
-    meets (a .area) (a .base) (a .length) (a .first) (a .behind) (c .lower .result) (c .before .before .border .result) (omega arith) (c .before .before .border .ensures)
+    meets (a .area) (a .base) (a .size) (a .first) (a .behind) (c .lower .result) (c .before .before .border .result) (omega arith) (c .before .before .border .ensures)
 
 pub overlap-spec : {M : Type 1} → statement M
 overlap-spec =
