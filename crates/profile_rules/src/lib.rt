@@ -193,7 +193,6 @@ fn check_tail(profile: Profile, counted: Tallies) -> Acceptance
     requires { ⌜ counted ≡ talliesOf (areasOf profile) ⌝ }
     ensures { λ r. ⌜ r ≡ acceptanceOf (firstFault (tailChecks profile)) ⌝ }
 {
-    let window = profile.window;
     if counted.configs != 1 {
         return Acceptance::Breaks(Rule::ConfigCount);
     }
@@ -203,7 +202,7 @@ fn check_tail(profile: Profile, counted: Tallies) -> Acceptance
     if 16777216 < counted.total {
         return Acceptance::Breaks(Rule::TooLarge);
     }
-    if window.high < window.low {
+    if profile.window.high < profile.window.low {
         return Acceptance::Breaks(Rule::WindowReversed);
     }
     Acceptance::Acceptable

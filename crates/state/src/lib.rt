@@ -43,7 +43,7 @@ pub enum Awaited {
     Packet(Kind),
 }
 
-// The ID stands first so that a copy of the state is one of whole words: docs/BENCHMARKS.md.
+// The ID stands first: the compiled code then copies a state by fewer and wider moves (docs/BENCHMARKS.md).
 pub struct State {
     // as latched with C3h
     pub id: [u8; 16],

@@ -10,12 +10,12 @@ use Rattle.profile_rules.proofs.check_tail.Tie as tie
 
 returns : tie.Need-returns
 unfolding firstFault tailChecks
-returns c = let e = sym (c .before .before .before .pre) in simp (ap (λ (t : Tallies). t .configs) e, ne-eqb _ _ (c .if1 .taken))
+returns c = let e = sym (c .before .before .pre) in simp (ap (λ (t : Tallies). t .configs) e, ne-eqb _ _ (c .if1 .taken))
 
 returns-2 : tie.Need-returns-2
 unfolding firstFault tailChecks
 returns-2 c =
-    let e = sym (c .before .before .before .before .before .pre) in
+    let e = sym (c .before .before .before .before .pre) in
     simp (
       ap (λ (t : Tallies). t .configs) e,
       ap (λ (t : Tallies). t .small) e,
@@ -26,7 +26,7 @@ returns-2 c =
 returns-3 : tie.Need-returns-3
 unfolding firstFault tailChecks
 returns-3 c =
-    let e = sym (c .before .before .before .before .before .before .before .pre) in
+    let e = sym (c .before .before .before .before .before .before .pre) in
     simp (
       ap (λ (t : Tallies). t .configs) e,
       ap (λ (t : Tallies). t .small) e,
@@ -39,7 +39,7 @@ returns-3 c =
 returns-4 : tie.Need-returns-4
 unfolding firstFault tailChecks
 returns-4 c =
-    let e = sym (c .before .before .before .before .before .before .before .before .before .pre) in
+    let e = sym (c .before .before .before .before .before .before .before .before .pre) in
     simp (
       ap (λ (t : Tallies). t .configs) e,
       ap (λ (t : Tallies). t .small) e,
@@ -53,7 +53,7 @@ returns-4 c =
 returns-5 : tie.Need-returns-5
 unfolding firstFault tailChecks
 returns-5 c =
-    let e = sym (c .before .before .before .before .before .before .before .before .before .pre) in
+    let e = sym (c .before .before .before .before .before .before .before .before .pre) in
     simp (
       ap (λ (t : Tallies). t .configs) e,
       ap (λ (t : Tallies). t .small) e,
