@@ -249,9 +249,6 @@ module _ (p : Profile) (l : Lent) (bs : List ℕ) (st : State) (n : ℕ) (rc : L
   whole : Added (awaitsOf (st .stage)) (st .held) (take (length bs - 0) (drop 0 bs)) n (l .receive) rc
   whole = subst (λ (x : List ℕ). Added (awaitsOf (st .stage)) (st .held) x n (l .receive) rc) (sym (take-all (length bs - 0) (drop 0 bs) (omega arith))) k
 
-  pub first-room : st .held + n ≤ length (l .receive)
-  first-room = fits-in (turned-none p l bs st r) whole
-
   pub turned-first : {now-state : State} → now-state ≡ withHeld (st .held + n) st → Turned p l bs st (buffers (l .image) rc (l .reply)) now-state n
   turned-first {now-state} is =
       let z : 0 + n ≡ n = omega arith in

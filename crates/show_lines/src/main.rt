@@ -84,12 +84,12 @@ fn send(
 }
 
 // Where the unread bytes begin behind the next turn.
-fn advanced(at: usize, used: usize, length: usize) -> usize
-    requires { ⌜ at ≤ length ⌝ }
-    ensures { λ r. ⌜ r ≤ length ⌝ }
+fn advanced(at: usize, used: usize, end: usize) -> usize
+    requires { ⌜ at ≤ end ⌝ }
+    ensures { λ r. ⌜ r ≤ end ⌝ }
 {
-    if length - at < used {
-        return length;
+    if end - at < used {
+        return end;
     }
     at + used
 }
