@@ -20,7 +20,7 @@ use Rattle.state.specs.declared.Range.{Range}
 use Rattle.state.specs.declared.Stage.the-variants.{Command, Writing}
 use Rattle.state.specs.declared.State.{State}
 use Rattle.state.specs.State.{freshState, withLine, withHeld}
-use Rattle.packet_fields.specs.Fields.{comOf, codeAt, infoOf, sadOf, eadOf, brtOf, areaNumberOf}
+use Rattle.packet_fields.specs.Fields.{comNumber, comOf, codeAt, infoOf, sadOf, eadOf, brtOf, areaNumberOf}
 use Rattle.check_command.specs.Commands.{commandChecks}
 use Rattle.answer.specs.Answer.{Answer, moved}
 use Rattle.answer_transfer.specs.Transfers.{readPacket}
@@ -49,8 +49,8 @@ grantOf p image st q Write = told q Granted Nothing (moved (Writing (spanOf (sad
 grantOf p image st q Read = readPacket p image st (spanOf (sadOf q) (eadOf q))
 grantOf p image st q Authenticate = entered p st q
 grantOf p image st q Baud = told q Granted Nothing (withHeld 0 (withLine (settingOf (p .sci) (brtOf q)) st))
-grantOf p image st q Signature = shown 0x3A (signatureMessage p) st
-grantOf p image st q Area = shown 0x3B (areaMessage (getD (p .areas) (areaNumberOf q) noArea)) st
+grantOf p image st q Signature = shown (comNumber Signature) (signatureMessage p) st
+grantOf p image st q Area = shown (comNumber Area) (areaMessage (getD (p .areas) (areaNumberOf q) noArea)) st
 grantOf p image st q Unknown = told q Granted Nothing (withHeld 0 st)
 
 -- a refused command changes nothing but that its packet is no longer held

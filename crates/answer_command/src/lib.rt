@@ -7,7 +7,8 @@ ghost use Rattle.profile.specs.Areas.{noArea};
 ghost use Rattle.profile_rules.specs.Rules.{Accepted};
 ghost use Rattle.baud.specs.Rate.{settingOf};
 ghost use Rattle.packet.specs.Frame.{Roomy};
-ghost use Rattle.packet_fields.specs.Fields.{sadOf, eadOf, brtOf, areaNumberOf};
+ghost use Rattle.packet_fields.specs.declared.Com.the-variants.{Signature, Area};
+ghost use Rattle.packet_fields.specs.Fields.{comNumber, sadOf, eadOf, brtOf, areaNumberOf};
 ghost use Rattle.packet_messages.specs.Messages.{areaMessage, signatureMessage};
 ghost use Rattle.flash.specs.declared.Act.the-variants.{Nothing, EraseRange};
 ghost use Rattle.state.specs.State.{withLine, withHeld};
@@ -20,7 +21,9 @@ use answer::send;
 use answer::tell;
 use answer_transfer::read_packet;
 use flash::Act;
+use packet_fields::AREA;
 use packet_fields::Com;
+use packet_fields::SIGNATURE;
 use profile::Profile;
 use state::Range;
 use state::Stage;
@@ -87,20 +90,20 @@ fn grant_baud(profile: Profile, state: State, packet: &[u8], reply: &mut [u8]) -
 
 fn grant_signature(profile: Profile, state: State, reply: &mut [u8]) -> Answered
     requires { ⌜ Roomy (now reply) ⌝ }
-    ensures { λ r. ⌜ Answers (shown 0x3A (signatureMessage profile) state) r (now (reply .entry)) (now (reply .exit)) ⌝ }
+    ensures { λ r. ⌜ Answers (shown (comNumber Signature) (signatureMessage profile) state) r (now (reply .entry)) (now (reply .exit)) ⌝ }
 {
     let bytes = packet_messages::signature_message(profile);
-    send(reply, with_held(state, 0), 0x3A, &bytes)
+    send(reply, with_held(state, 0), SIGNATURE, &bytes)
 }
 
 fn grant_area(profile: Profile, state: State, packet: &[u8], reply: &mut [u8]) -> Answered
     requires { ⌜ Roomy (now reply) × (areaNumberOf (now packet) < 8) ⌝ }
-    ensures { λ r. ⌜ Answers (shown 0x3B (areaMessage (getD (profile .areas) (areaNumberOf (now (packet .entry))) noArea)) state) r (now (reply .entry)) (now (reply .exit)) ⌝ }
+    ensures { λ r. ⌜ Answers (shown (comNumber Area) (areaMessage (getD (profile .areas) (areaNumberOf (now (packet .entry))) noArea)) state) r (now (reply .entry)) (now (reply .exit)) ⌝ }
 {
     let number = packet_fields::byte_at(packet, 4) as usize;
     let area = profile.areas[number];
     let bytes = packet_messages::area_message(area);
-    send(reply, with_held(state, 0), 0x3B, &bytes)
+    send(reply, with_held(state, 0), AREA, &bytes)
 }
 
 // A command that was granted.

@@ -16,7 +16,8 @@ use Rattle.state.specs.declared.Range.{Range}
 use Rattle.state.specs.declared.Stage.{Stage}
 use Rattle.state.specs.declared.Stage.the-variants.{Command, Writing, Reading}
 use Rattle.state.specs.declared.State.{State}
-use Rattle.packet_fields.specs.Fields.{infoCount}
+use Rattle.packet_fields.specs.declared.Com.the-variants.{Write, Read}
+use Rattle.packet_fields.specs.Fields.{comNumber, infoCount}
 use Rattle.check_transfer.specs.Transfer.{writeChecks, nextChecks}
 use Rattle.answer.specs.Answer.{Answer, moved}
 
@@ -34,7 +35,7 @@ readCount r = min (r .left) longestData
 
 unfoldable pub readPacket : Profile → List ℕ → State → Range → Answer
 readPacket p image st r =
-    record { act = Nothing; state = moved (after Reading r (readCount r)) st; reply = dataReply 0x15 (fetched (areasOf p) (r .next) (readCount r) image) }
+    record { act = Nothing; state = moved (after Reading r (readCount r)) st; reply = dataReply (comNumber Read) (fetched (areasOf p) (r .next) (readCount r) image) }
 
 -- an end of a write or a read by an error: RES is that of the transfer, whatever the packet's
 abbrev pub broken : ℕ → State → Verdict → Answer
@@ -42,15 +43,15 @@ broken res st v = record { act = Nothing; state = moved Command st; reply = stat
 
 unfoldable pub writeDecided : State → Range → List ℕ → Verdict → Answer
 writeDecided st r q Granted =
-    record { act = Store (r .next) (infoCount q); state = moved (after Writing r (infoCount q)) st; reply = statusReply 0x13 Granted }
-writeDecided st r q (Refused reason) = broken 0x13 st (Refused reason)
+    record { act = Store (r .next) (infoCount q); state = moved (after Writing r (infoCount q)) st; reply = statusReply (comNumber Write) Granted }
+writeDecided st r q (Refused reason) = broken (comNumber Write) st (Refused reason)
 
 unfoldable pub answerWrite : Profile → List ℕ → State → Range → List ℕ → Answer
 answerWrite p image st r q = writeDecided st r q (verdictOf (firstFault (writeChecks (areasOf p) image r q)))
 
 unfoldable pub nextDecided : Profile → List ℕ → State → Range → Verdict → Answer
 nextDecided p image st r Granted = readPacket p image st r
-nextDecided p image st r (Refused reason) = broken 0x15 st (Refused reason)
+nextDecided p image st r (Refused reason) = broken (comNumber Read) st (Refused reason)
 
 unfoldable pub answerNext : Profile → List ℕ → State → Range → List ℕ → Answer
 answerNext p image st r q = nextDecided p image st r (verdictOf (firstFault (nextChecks q)))

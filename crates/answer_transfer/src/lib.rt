@@ -12,6 +12,8 @@ use answer::send;
 use answer::tell;
 use flash::Act;
 use packet::LONGEST_DATA;
+use packet_fields::READ;
+use packet_fields::WRITE;
 use profile::Profile;
 use state::Range;
 use state::Stage;
@@ -53,10 +55,10 @@ pub fn read_packet(
     let n = packet_size(range.left);
     let bytes = flash::fetch(image, profile, range.next, n as usize);
     if range.left == n {
-        return send(reply, in_stage(state, Stage::Command), 0x15, bytes);
+        return send(reply, in_stage(state, Stage::Command), READ, bytes);
     }
     let going = Stage::Reading(rest(range, n));
-    send(reply, in_stage(state, going), 0x15, bytes)
+    send(reply, in_stage(state, going), READ, bytes)
 }
 
 // Write data that was granted: it is to be stored, and the write goes on or is over.
@@ -72,12 +74,12 @@ fn accept_data(state: State, range: Range, packet: &[u8], reply: &mut [u8]) -> A
             reply,
             act,
             in_stage(state, Stage::Command),
-            0x13,
+            WRITE,
             Verdict::Granted,
         );
     }
     let going = Stage::Writing(rest(range, n));
-    tell(reply, act, in_stage(state, going), 0x13, Verdict::Granted)
+    tell(reply, act, in_stage(state, going), WRITE, Verdict::Granted)
 }
 
 // What a complete packet in a write is answered.
@@ -98,7 +100,7 @@ pub fn answer_write(
             reply,
             Act::Nothing,
             in_stage(state, Stage::Command),
-            0x13,
+            WRITE,
             Verdict::Refused(reason),
         ),
         Verdict::Granted => accept_data(state, range, packet, reply),
@@ -123,7 +125,7 @@ pub fn answer_next(
             reply,
             Act::Nothing,
             in_stage(state, Stage::Command),
-            0x15,
+            READ,
             Verdict::Refused(reason),
         ),
         Verdict::Granted => read_packet(profile, image, state, range, reply),

@@ -19,7 +19,7 @@ use Rattle.state.specs.declared.Stage.{Stage}
 use Rattle.state.specs.declared.Stage.the-variants.{Setting, Authentication, Command, Writing, Reading}
 use Rattle.state.specs.declared.State.{State}
 use Rattle.state.specs.State.{windowOf}
-use Rattle.packet_fields.specs.Fields.{comOf, codeAt, infoCount, infoOf, sadOf, eadOf, brtOf, areaNumberOf, infoLength}
+use Rattle.packet_fields.specs.Fields.{comNumber, comOf, codeAt, infoCount, infoOf, sadOf, eadOf, brtOf, areaNumberOf, infoLength}
 
 abbrev pub isUnknown : Com → Bool
 isUnknown Inquiry = false
@@ -32,11 +32,11 @@ isUnknown Signature = false
 isUnknown Area = false
 isUnknown Unknown = true
 
--- authentication stage permits only 30h, command stage all but 30h; no command is received elsewhere
+-- authentication stage permits only authenticate, command stage all but that; no command is received elsewhere
 abbrev pub stageWrong : Stage → ℕ → Bool
 stageWrong (Setting u) n = true
-stageWrong Authentication n = not (eqb n 0x30)
-stageWrong Command n = eqb n 0x30
+stageWrong Authentication n = not (eqb n (comNumber Authenticate))
+stageWrong Command n = eqb n (comNumber Authenticate)
 stageWrong (Writing r) n = true
 stageWrong (Reading r) n = true
 

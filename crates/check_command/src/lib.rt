@@ -5,6 +5,7 @@ ghost use Rattle.profile_ranges.specs.Ranges.{rangeChecks};
 ghost use Rattle.verdict.specs.Check.{firstFault, verdictOf};
 ghost use Rattle.packet_fields.specs.Fields.{sadOf, eadOf};
 ghost use Rattle.check_command.specs.Commands.{isUnknown, stageWrong, formChecks, areaNumberChecks, ownChecks, knownChecks, commandChecks};
+use packet_fields::AUTHENTICATE;
 use packet_fields::Com;
 use packet_fields::byte_at;
 use packet_fields::com_of;
@@ -42,8 +43,8 @@ fn is_stage_wrong(stage: Stage, code: u8) -> bool
 {
     match stage {
         Stage::Setting(_) => true,
-        Stage::Authentication => code != 0x30,
-        Stage::Command => code == 0x30,
+        Stage::Authentication => code != AUTHENTICATE,
+        Stage::Command => code == AUTHENTICATE,
         Stage::Writing(_) => true,
         Stage::Reading(_) => true,
     }

@@ -15,7 +15,8 @@ use Rattle.flash_blank.specs.declared.Search.the-variants.{Clean, Dirty}
 use Rattle.flash.specs.Effects.{fetched}
 use Rattle.flash_blank.specs.Blank.{searched}
 use Rattle.state.specs.declared.Range.{Range}
-use Rattle.packet_fields.specs.Fields.{codeAt, infoCount}
+use Rattle.packet_fields.specs.declared.Com.the-variants.{Write, Read}
+use Rattle.packet_fields.specs.Fields.{comNumber, codeAt, infoCount}
 
 abbrev pub isDirty : Search → Bool
 isDirty Clean = false
@@ -24,7 +25,7 @@ isDirty (Dirty n) = true
 -- RES and the amount
 unfoldable pub amountChecks : ℕ → List ℕ → List (Check Reason)
 amountChecks left q =
-    (not (eqb (codeAt q) 0x13) gives NotWriteData)
+    (not (eqb (codeAt q) (comNumber Write)) gives NotWriteData)
     ∷ (eqb (infoCount q) 0 gives NoData)
     ∷ (ltb left (infoCount q) gives TooMuchData)
     ∷ []
@@ -52,7 +53,7 @@ writeChecks areas image r q = endingChecks q ++ targetChecks areas image r q
 
 -- only 81 00 02 15 00 E9 03 asks for the next packet
 unfoldable pub asksNext : List ℕ → Bool
-asksNext q = eqb (codeAt q) 0x15 && (eqb (infoCount q) 1 && eqb (getD q 4 0) 0x00)
+asksNext q = eqb (codeAt q) (comNumber Read) && (eqb (infoCount q) 1 && eqb (getD q 4 0) 0x00)
 
 unfoldable pub nextChecks : List ℕ → List (Check Reason)
 nextChecks q = endingChecks q ++ (not (asksNext q) gives NotNextRequest) ∷ []

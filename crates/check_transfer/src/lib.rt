@@ -8,6 +8,8 @@ ghost use Rattle.verdict.specs.declared.Reason.the-variants.{NotNextRequest};
 ghost use Rattle.profile.specs.Areas.{areasOf};
 ghost use Rattle.check_transfer.specs.Transfer.{amountChecks, unitBefore, unitsChecks, targetChecks, writeChecks, asksNext, nextChecks};
 use flash_blank::Search;
+use packet_fields::READ;
+use packet_fields::WRITE;
 use packet_fields::byte_at;
 use packet_fields::info_count;
 use profile::Profile;
@@ -20,7 +22,7 @@ fn check_amount(left: u32, packet: &[u8]) -> Verdict
     ensures { λ r. ⌜ r ≡ verdictOf (firstFault (amountChecks left (now (packet .entry)))) ⌝ }
 {
     let count = info_count(packet);
-    if byte_at(packet, 3) != 0x13 {
+    if byte_at(packet, 3) != WRITE {
         return Verdict::Refused(Reason::NotWriteData);
     }
     if count == 0 {
@@ -77,7 +79,7 @@ pub fn check_write(profile: Profile, image: &[u8], range: Range, packet: &[u8]) 
 fn asks_next(packet: &[u8]) -> bool
     ensures { λ r. ⌜ r ≡ asksNext (now (packet .entry)) ⌝ }
 {
-    if byte_at(packet, 3) != 0x15 {
+    if byte_at(packet, 3) != READ {
         return false;
     }
     if info_count(packet) != 1 {

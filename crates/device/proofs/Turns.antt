@@ -16,7 +16,7 @@ use Rattle.answer.specs.declared.Answered.{Answered}
 use Rattle.answer_waking.proofs.Woken.{front-nothing}
 use Rattle.device_calls.specs.declared.Refusal.{Refusal}
 use Rattle.device_calls.specs.declared.Refusal.the-variants.{Accepted, By}
-use Rattle.device_calls.specs.Calls.{Lent, buffers, isAccepted}
+use Rattle.device_calls.specs.Calls.{Lent, buffers, numberOf, feedRefusal, isAccepted}
 use Rattle.device_calls.specs.Ready.{Ready}
 use Rattle.device_calls.proofs.Rows.{is-accepted}
 use Rattle.device_steps.specs.Step.{Machine, machineOf, Step, holding, stepOf}
@@ -24,7 +24,7 @@ use Rattle.device_steps.specs.Feed.{Delivery, feedOf}
 use Rattle.device_steps.proofs.Delivered.{later, Reached, reached-start, reached-more, reached-quiet, reached-reply, reached-end, consumed-most}
 use Rattle.device.specs.declared.Fed.{Fed}
 use Rattle.device.specs.Steps.{Stood, Holding, Added}
-use Rattle.device.specs.Post.{Ran, FedBy}
+use Rattle.device.specs.Post.{Ran, FedBy, Feeds}
 use Rattle.device.proofs.Added.{there, room, held-on, fed-more}
 
 -- what the bytes before i have done: no reply yet, the state fits, and what the whole input gives is what its rest gives, i bytes later
@@ -270,3 +270,14 @@ pub fed-refused : (refusal found : Refusal) (t : Bool) (d : Delivery) (input : L
 fed-refused refusal found t d input st l e i h =
     subst (λ (x : Refusal). FedBy x d input st l l (record { refusal = found; state = st; consumed = 0; count = 0 })) e
     (fed-not found d input st l (sym i ∙ h))
+
+-- either way the number is that of the refusal
+fed-number : (refusal : Refusal) (d : Delivery) (input : List ℕ) (st : State) (before after : Lent) (r : Fed) → FedBy refusal d input st before after r
+    → numberOf (r .refusal) ≡ numberOf refusal
+fed-number Accepted d input st before after r f = ap (λ (x : Fed). numberOf (x .refusal)) (f .is)
+fed-number (By row) d input st before after r f = ap (λ (x : Fed). numberOf (x .refusal)) (f .is)
+
+pub feeds : {p : Profile} {st : State} {input : List ℕ} {before after : Lent} {r : Fed}
+    → FedBy (feedRefusal p st before) (feedOf p (machineOf st before) input) input st before after r → Feeds p st input before after r
+feeds {p} {st} {input} {before} {after} {r} f =
+    record { number = fed-number (feedRefusal p st before) (feedOf p (machineOf st before) input) input st before after r f; fed = f }

@@ -12,18 +12,18 @@ use Rattle.state.specs.State.{zeroState}
 use Rattle.device_calls.specs.declared.Refusal.{Refusal}
 use Rattle.device_calls.specs.declared.Refusal.the-variants.{Accepted, By}
 use Rattle.device_calls.specs.declared.Started.{Started}
-use Rattle.device_calls.specs.Calls.{Lent, startRefusal, isAccepted, startedBy}
+use Rattle.device_calls.specs.Calls.{Lent, isAccepted, Starts}
 use Rattle.device_steps.specs.Feed.{Delivery}
 use Rattle.device.specs.declared.Fed.{Fed}
 use Rattle.device.specs.Post.{FedBy}
 
 -- starting and resetting
 module _ (p : Profile) (image : List ℕ) where
-  pub started-once : (r r′ : Started) → r ≡ startedBy (startRefusal p (length image)) p zeroState → r′ ≡ startedBy (startRefusal p (length image)) p zeroState → r ≡ r′
-  started-once r r′ e f = one-answer e f
+  pub started-once : (r r′ : Started) → Starts p (length image) zeroState r → Starts p (length image) zeroState r′ → r ≡ r′
+  started-once r r′ e f = one-answer (e .is) (f .is)
 
-  pub reset-once : (st : State) (r r′ : Started) → r ≡ startedBy (startRefusal p (length image)) p st → r′ ≡ startedBy (startRefusal p (length image)) p st → r ≡ r′
-  reset-once st r r′ e f = one-answer e f
+  pub reset-once : (st : State) (r r′ : Started) → Starts p (length image) st r → Starts p (length image) st r′ → r ≡ r′
+  reset-once st r r′ e f = one-answer (e .is) (f .is)
 
 -- what two outcomes of a feed have in common: all but the received bytes beyond the held ones
 pub record Same (after after′ : Lent) (r r′ : Fed) : Type 0 where

@@ -9,7 +9,7 @@ use Rattle.state.specs.declared.State.{State}
 use Rattle.device_calls.specs.declared.Row.{Row}
 use Rattle.device_calls.specs.declared.Refusal.{Refusal}
 use Rattle.device_calls.specs.declared.Refusal.the-variants.{Accepted, By}
-use Rattle.device_calls.specs.Calls.{Lent, feedRefusal}
+use Rattle.device_calls.specs.Calls.{Lent, numberOf, feedRefusal}
 use Rattle.device_steps.specs.Step.{machineOf}
 use Rattle.device_steps.specs.Feed.{Delivery, feedOf}
 use Rattle.device.specs.declared.Fed.{Fed}
@@ -32,6 +32,7 @@ abbrev pub FedBy : Refusal → Delivery → List ℕ → State → Lent → Lent
 FedBy Accepted d input st before after r = Ran d input before after r
 FedBy (By row) d input st before after r = Unfed row st before after r
 
--- what feeding promises
-abbrev pub Feeds : Profile → State → List ℕ → Lent → Lent → Fed → Type 0
-Feeds p st input before after r = FedBy (feedRefusal p st before) (feedOf p (machineOf st before) input) input st before after r
+-- what feeding promises: the paper's number of the first row that applies, 0 where none does, and all that it leaves
+pub record Feeds (p : Profile) (st : State) (input : List ℕ) (before after : Lent) (r : Fed) : Type 0 where
+  pub number : numberOf (r .refusal) ≡ numberOf (feedRefusal p st before)
+  pub fed : FedBy (feedRefusal p st before) (feedOf p (machineOf st before) input) input st before after r

@@ -44,8 +44,8 @@ fn early_code(stage: Stage) -> u8
         Stage::Setting(_) => 0x00,
         Stage::Authentication => 0x00,
         Stage::Command => 0x00,
-        Stage::Writing(_) => 0x13,
-        Stage::Reading(_) => 0x15,
+        Stage::Writing(_) => packet_fields::WRITE,
+        Stage::Reading(_) => packet_fields::READ,
     }
 }
 

@@ -28,7 +28,7 @@ use Rattle.device_calls.specs.declared.Row.the-variants.{Unacceptable, W
 use Rattle.device_calls.specs.declared.Refusal.{Refusal}
 use Rattle.device_calls.specs.declared.Refusal.the-variants.{Accepted, By}
 use Rattle.device_calls.specs.declared.Started.{Started}
-use Rattle.device_calls.specs.Calls.{Lent, numberOf, isAccepted, startRows, bufferRows, feedRows, refusalOf, startRefusal, feedRefusal, startedAt}
+use Rattle.device_calls.specs.Calls.{Lent, numberOf, isAccepted, startRows, bufferRows, feedRows, refusalOf, startRefusal, feedRefusal, startedAt, startedBy, Starts}
 use Rattle.device_calls.specs.Ready.{Ready}
 
 impossible : {A : Type 0} → _≡_ {A = ℕ} 0 1 → A
@@ -57,6 +57,9 @@ pub begun : (at : Refusal → State) (refusal r : Refusal) (s : State) → r ≡
 begun at refusal r s e f =
     ap (λ (x : State). record { refusal = r; state = x }) f
     ∙ ap (λ (x : Refusal). record { refusal = x; state = at x }) e
+
+pub starts : {p : Profile} {n : ℕ} {before : State} {r : Started} → r ≡ startedBy (startRefusal p n) p before → Starts p n before r
+starts e = record { number = ap (λ (x : Started). numberOf (x .refusal)) e; is = e }
 
 -- an accepted call, so no row is found
 pub no-row : (f : Option Row) → refusalOf f ≡ Accepted → f ≡ none

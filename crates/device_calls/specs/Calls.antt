@@ -2,6 +2,7 @@
 use mathlib.Core.Bool.{Bool, true, false, not}
 use mathlib.Core.List.{List, [], _∷_, _++_}
 use mathlib.Core.Option.{Option, none, some}
+use mathlib.Core.Path.{_≡_}
 use Prim.Native.Nat.{ℕ}
 use lib.ListN.{length}
 use lib.Dec.{ltb, eqb}
@@ -81,3 +82,8 @@ startedAt (By row) p before = before
 -- what they answer
 abbrev pub startedBy : Refusal → Profile → State → Started
 startedBy refusal p before = record { refusal = refusal; state = startedAt refusal p before }
+
+-- what they promise, for an image of n bytes: the paper's number of the first row that applies, 0 where none does, and all of the answer
+pub record Starts (p : Profile) (n : ℕ) (before : State) (r : Started) : Type 0 where
+  pub number : numberOf (r .refusal) ≡ numberOf (startRefusal p n)
+  pub is : r ≡ startedBy (startRefusal p n) p before

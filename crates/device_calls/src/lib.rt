@@ -1,10 +1,9 @@
 // Which calls are refused; starting and resetting.
 mod refusals;
 
-ghost use mathlib.Core.Path.{_≡_};
 ghost use lib.ListN.{length};
 ghost use Rattle.state.specs.State.{zeroState};
-ghost use Rattle.device_calls.specs.Calls.{startRefusal, startedBy};
+ghost use Rattle.device_calls.specs.Calls.{Starts};
 use profile::Profile;
 pub use refusals::is_accepted;
 pub use refusals::number;
@@ -40,7 +39,7 @@ pub struct Started {
 
 // A fresh state for a profile and an image.
 pub fn start(profile: Profile, image: &[u8]) -> Started
-    ensures { λ r. ⌜ r ≡ startedBy (startRefusal profile (length (now (image .entry)))) profile zeroState ⌝ }
+    ensures { λ r. ⌜ Starts profile (length (now (image .entry))) zeroState r ⌝ }
 {
     let refusal = unstarted(profile, image.len());
     if is_accepted(refusal) {
@@ -57,7 +56,7 @@ pub fn start(profile: Profile, image: &[u8]) -> Started
 
 // Starting again, whatever the state was; a refused reset leaves it.
 pub fn reset(profile: Profile, image: &[u8], state: State) -> Started
-    ensures { λ r. ⌜ r ≡ startedBy (startRefusal profile (length (now (image .entry)))) profile state ⌝ }
+    ensures { λ r. ⌜ Starts profile (length (now (image .entry))) state r ⌝ }
 {
     let refusal = unstarted(profile, image.len());
     if is_accepted(refusal) {

@@ -9,7 +9,8 @@ use Rattle.profile.specs.Areas.{areasOf}
 use Rattle.packet.specs.declared.Progress.{Progress}
 use Rattle.packet.specs.declared.Progress.the-variants.{Astray, Partial, Unfit, Complete, Excess}
 use Rattle.packet.specs.Packet.{progressOf}
-use Rattle.packet_fields.specs.Fields.{infoOf}
+use Rattle.packet_fields.specs.declared.Com.the-variants.{Write, Read}
+use Rattle.packet_fields.specs.Fields.{comNumber, infoOf}
 use Rattle.packet_reply.specs.Reply.{statusReply}
 use Rattle.flash.specs.declared.Act.the-variants.{Nothing}
 use Rattle.flash.specs.Acts.{performed}
@@ -50,13 +51,13 @@ abbrev pub holding : List ℕ → Machine → Step
 holding q m =
     record { machine = record { image = m .image; held = q; state = withHeld (length q) (m .state) }; reply = [] }
 
--- a refused length: its COM or RES, and the stage that it leads to; a transfer is over
+-- a refused length: its COM or RES, 00h where none has come yet, and the stage that it leads to; a transfer is over
 abbrev pub earlyOf : Stage → ℕ × Stage
 earlyOf (Setting u) = (0x00, Setting u)
 earlyOf Authentication = (0x00, Authentication)
 earlyOf Command = (0x00, Command)
-earlyOf (Writing r) = (0x13, Command)
-earlyOf (Reading r) = (0x15, Command)
+earlyOf (Writing r) = (comNumber Write, Command)
+earlyOf (Reading r) = (comNumber Read, Command)
 
 -- a length outside its range
 abbrev pub refusedEarly : State → Answer

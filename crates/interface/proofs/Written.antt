@@ -116,7 +116,7 @@ module _ (p : Profile) (st : State) (input : List ℕ) (before after : Lent) (fe
 
   pub fed-bytes : Feeds p st input before after fed
       → FedState p st input (beside before state₀) (beside after state) (numbers number (fed .consumed) (fed .count))
-  fed-bytes f = by (feedRefusal p st before) (feedOf p (machineOf st before) input) f
+  fed-bytes f = by (feedRefusal p st before) (feedOf p (machineOf st before) input) (f .fed)
 
 -- feeding
 module _ (profile input : List ℕ) (before : LentBytes) where

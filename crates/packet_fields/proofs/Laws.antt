@@ -1,13 +1,16 @@
--- A number of no command, the bytes between COM and SUM, and a number that is there. Assumes nothing.
+-- The numbers of commands, the bytes between COM and SUM, and a number that is there. Assumes nothing.
 use mathlib.Core.List.{List, []}
-use mathlib.Core.Path.{_≡_, refl, ap}
+use mathlib.Core.Bool.{Bool, true, false, cond}
+use mathlib.Core.Path.{_≡_, refl, sym, ap, _∙_}
 use Prim.Native.Nat.{ℕ, _+_, _-_, _≤_, _<_}
 use native.Mathlib.Omega.{arith}
 use lib.ListN.{length, take, drop}
-use borrow.Author.Tests.{ne-eqb, le-leb}
+use lib.Dec.{eqb}
+use borrow.Author.Tests.{ne-eqb, eqb-true, le-leb}
 use Rattle.numbers.specs.Bytes.{number, field, numberAt}
-use Rattle.packet_fields.specs.declared.Com.the-variants.{Unknown}
-use Rattle.packet_fields.specs.Fields.{comOf, infoOf, valueOf}
+use Rattle.packet_fields.specs.declared.Com.{Com}
+use Rattle.packet_fields.specs.declared.Com.the-variants.{Inquiry, Erase, Write, Read, Authenticate, Baud, Signature, Area, Unknown}
+use Rattle.packet_fields.specs.Fields.{comNumber, comOf, infoOf, valueOf}
 
 -- a number that is none of the eight
 pub com-unknown : (n : ℕ)
@@ -17,6 +20,44 @@ pub com-unknown : (n : ℕ)
 unfolding comOf
 com-unknown n a b c d e f g h =
     simp (ne-eqb n 0x00 a, ne-eqb n 0x12 b, ne-eqb n 0x13 c, ne-eqb n 0x15 d, ne-eqb n 0x30 e, ne-eqb n 0x34 f, ne-eqb n 0x3A g, ne-eqb n 0x3B h)
+
+-- each command is the one of its number, and the number of no command belongs to none
+pub com-back : (cmd : Com) → comOf (comNumber cmd) ≡ cmd
+unfolding comOf
+com-back Inquiry = refl
+com-back Erase = refl
+com-back Write = refl
+com-back Read = refl
+com-back Authenticate = refl
+com-back Baud = refl
+com-back Signature = refl
+com-back Area = refl
+com-back Unknown = refl
+
+-- two commands never have one number
+pub number-once : (cmd other : Com) → comNumber cmd ≡ comNumber other → cmd ≡ other
+number-once cmd other e = sym (com-back cmd) ∙ ap comOf e ∙ com-back other
+
+-- a number that is a command's is the number of that command
+numbered : (n : ℕ) (m : Com) (rest : Com) → (eqb n (comNumber m) ≡ false → (rest ≡ Unknown → ⊥) → n ≡ comNumber rest)
+    → (cond (eqb n (comNumber m)) m rest ≡ Unknown → ⊥) → n ≡ comNumber (cond (eqb n (comNumber m)) m rest)
+numbered n m rest later known = by (eqb n (comNumber m)) refl known
+  where
+    by : (t : Bool) → eqb n (comNumber m) ≡ t → (cond t m rest ≡ Unknown → ⊥) → n ≡ comNumber (cond t m rest)
+    by true e k = eqb-true n (comNumber m) e
+    by false e k = later e k
+
+pub number-back : (n : ℕ) → (comOf n ≡ Unknown → ⊥) → n ≡ comNumber (comOf n)
+unfolding comOf
+number-back n =
+    numbered n Inquiry _ (λ _.
+    numbered n Erase _ (λ _.
+    numbered n Write _ (λ _.
+    numbered n Read _ (λ _.
+    numbered n Authenticate _ (λ _.
+    numbered n Baud _ (λ _.
+    numbered n Signature _ (λ _.
+    numbered n Area _ (λ _ known. absurd (known refl)))))))))
 
 -- a packet with no room between COM and SUM, and one with room
 pub info-none : (q : List ℕ) → length q < 6 → [] ≡ infoOf q

@@ -10,17 +10,29 @@ use Rattle.numbers.specs.Bytes.{numberAt}
 use Rattle.packet_fields.specs.declared.Com.{Com}
 use Rattle.packet_fields.specs.declared.Com.the-variants.{Inquiry, Erase, Write, Read, Authenticate, Baud, Signature, Area, Unknown}
 
--- the command of a number
+-- the number of each command, which replies have as RES; what is no command has one that no byte is
+abbrev pub comNumber : Com → ℕ
+comNumber Inquiry = 0x00
+comNumber Erase = 0x12
+comNumber Write = 0x13
+comNumber Read = 0x15
+comNumber Authenticate = 0x30
+comNumber Baud = 0x34
+comNumber Signature = 0x3A
+comNumber Area = 0x3B
+comNumber Unknown = 0x100
+
+-- the command that has a number
 unfoldable pub comOf : ℕ → Com
 comOf n =
-    cond (eqb n 0x00) Inquiry
-    (cond (eqb n 0x12) Erase
-    (cond (eqb n 0x13) Write
-    (cond (eqb n 0x15) Read
-    (cond (eqb n 0x30) Authenticate
-    (cond (eqb n 0x34) Baud
-    (cond (eqb n 0x3A) Signature
-    (cond (eqb n 0x3B) Area
+    cond (eqb n (comNumber Inquiry)) Inquiry
+    (cond (eqb n (comNumber Erase)) Erase
+    (cond (eqb n (comNumber Write)) Write
+    (cond (eqb n (comNumber Read)) Read
+    (cond (eqb n (comNumber Authenticate)) Authenticate
+    (cond (eqb n (comNumber Baud)) Baud
+    (cond (eqb n (comNumber Signature)) Signature
+    (cond (eqb n (comNumber Area)) Area
     Unknown)))))))
 
 -- COM or RES of a packet, and the bytes between it and SUM

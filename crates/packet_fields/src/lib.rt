@@ -4,7 +4,7 @@ ghost use lib.ListN.{getD};
 ghost use Rattle.packet_fields.specs.Fields.{comOf, infoCount, infoOf, fourAt, infoLength};
 use numbers::Number;
 
-// The commands of document 01.
+// The commands.
 pub enum Com {
     Inquiry,
     Erase,
@@ -17,19 +17,29 @@ pub enum Com {
     Unknown,
 }
 
+// Their numbers: COM of a request, RES of what answers it.
+pub const INQUIRY: u8 = 0x00;
+pub const ERASE: u8 = 0x12;
+pub const WRITE: u8 = 0x13;
+pub const READ: u8 = 0x15;
+pub const AUTHENTICATE: u8 = 0x30;
+pub const BAUD: u8 = 0x34;
+pub const SIGNATURE: u8 = 0x3A;
+pub const AREA: u8 = 0x3B;
+
 // The command of a number.
 pub fn com_of(code: u8) -> Com
     ensures { λ r. ⌜ r ≡ comOf code ⌝ }
 {
     match code {
-        0x00 => Com::Inquiry,
-        0x12 => Com::Erase,
-        0x13 => Com::Write,
-        0x15 => Com::Read,
-        0x30 => Com::Authenticate,
-        0x34 => Com::Baud,
-        0x3A => Com::Signature,
-        0x3B => Com::Area,
+        INQUIRY => Com::Inquiry,
+        ERASE => Com::Erase,
+        WRITE => Com::Write,
+        READ => Com::Read,
+        AUTHENTICATE => Com::Authenticate,
+        BAUD => Com::Baud,
+        SIGNATURE => Com::Signature,
+        AREA => Com::Area,
         _ => Com::Unknown,
     }
 }

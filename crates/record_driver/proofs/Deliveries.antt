@@ -72,7 +72,7 @@ module _ {p : Profile} {l₀ : Lent} {bs : List ℕ} {st₀ : State} {l : Lent} 
     ran : Ran d rest l after r
     ran =
         subst (λ (x : List ℕ). Ran (feedOf p m x) x l after r) (rest-is bs at)
-        (subst (λ (x : Refusal). FedBy x (feedOf p m (take (length bs - at) rest)) (take (length bs - at) rest) st l after r) (ready-rows p st l (t .ready)) fed)
+        (subst (λ (x : Refusal). FedBy x (feedOf p m (take (length bs - at) rest)) (take (length bs - at) rest) st l after r) (ready-rows p st l (t .ready)) (fed .fed))
 
     state : r .state ≡ d .machine .state
     state = ap (λ (x : Fed). x .state) (ran .is)

@@ -83,7 +83,7 @@ module _ (p : Profile) (l : Lent) {begun : Started} {t : Bool} (e : begun ≡ st
     fresh = state ∙ ap (λ (x : Refusal). startedAt x p zeroState) (is-accepted first (sym begins ∙ not-false t y))
 
     attempt : Tried row l l′ fed
-    attempt = subst (λ (s : State). Tried (feedRefusal p s l) l l′ fed) fresh (tried _ p (begun .state) l l′ fed f)
+    attempt = subst (λ (s : State). Tried (feedRefusal p s l) l l′ fed) fresh (tried _ p (begun .state) l l′ fed (f .fed))
 
     fed-told : u ≡ isAccepted row
     fed-told = b ∙ ap isAccepted (attempt .told)

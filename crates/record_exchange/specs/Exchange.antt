@@ -12,7 +12,7 @@ use Rattle.packet.specs.declared.Kind.the-variants.{Command as CommandPacket}
 use Rattle.packet.specs.Packet.{startOf, good}
 use Rattle.packet_fields.specs.declared.Com.{Com}
 use Rattle.packet_fields.specs.declared.Com.the-variants.{Inquiry, Erase, Write, Read, Authenticate, Baud, Signature, Area, Unknown}
-use Rattle.packet_fields.specs.Fields.{comOf, codeAt, infoCount, infoOf, infoLength, sadOf, eadOf}
+use Rattle.packet_fields.specs.Fields.{comNumber, comOf, codeAt, infoCount, infoOf, infoLength, sadOf, eadOf}
 use Rattle.packet_reply.specs.Reply.{statusReply}
 use Rattle.flash.specs.declared.Act.the-variants.{Nothing, EraseRange, EraseAll, Store}
 use Rattle.record_exchange.specs.declared.Landing.{Landing}
@@ -51,9 +51,9 @@ unfoldable pub dataTold : List ℕ → Landing → Told
 dataTold q Nowhere = idle Nowhere
 dataTold q (At x) = record { act = Store x (infoCount q); landing = At (x + infoCount q) }
 
--- only data with RES 13h is written
+-- only data with the RES of a write is written
 unfoldable pub dataRead : List ℕ → List ℕ → Landing → Told
-dataRead q reply landing = cond (eqb (codeAt q) 0x13) (cond (answeredOk q reply) (dataTold q landing) (idle landing)) (idle landing)
+dataRead q reply landing = cond (eqb (codeAt q) (comNumber Write)) (cond (answeredOk q reply) (dataTold q landing) (idle landing)) (idle landing)
 
 -- a request by its start byte; what is no whole packet with right ETX and SUM does nothing
 unfoldable pub exchangeRead : List ℕ → List ℕ → Landing → Told

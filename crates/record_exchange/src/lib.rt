@@ -115,7 +115,7 @@ fn read_data(request: &[u8], reply: &[u8], landing: Landing) -> Told
     requires { ⌜ CanMove landing (length (now request)) ⌝ }
     ensures { λ r. ⌜ r ≡ dataRead (now (request .entry)) (now (reply .entry)) landing ⌝ }
 {
-    if packet_fields::byte_at(request, 3) != 0x13 {
+    if packet_fields::byte_at(request, 3) != packet_fields::WRITE {
         return idle(landing);
     }
     if !answered_ok(request, reply) {

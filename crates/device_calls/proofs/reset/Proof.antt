@@ -3,7 +3,7 @@ use mathlib.Core.Path.{sym, _∙_}
 use borrow.Author.Needs.{needs}
 use Rattle.device_calls.specs.Calls.{startedAt}
 use Rattle.device_calls.specs.declared.Refusal.{Refusal}
-use Rattle.device_calls.proofs.Rows.{begun, started-fresh, started-same}
+use Rattle.device_calls.proofs.Rows.{begun, starts, started-fresh, started-same}
 use Rattle.device_calls.proofs.reset.Statement.{statement}
 use Rattle.device_calls.proofs.reset.Tie as tie
 
@@ -11,15 +11,15 @@ returns : tie.Need-returns
 returns c =
     let a = c .before .before .before .before .before .args in
     let u = c .before .before .before .unstarted in
-    begun (λ (refusal : Refusal). startedAt refusal (a .profile) (a .state)) _ (u .result) (c .fresh .result) (u .ensures)
-    (c .fresh .ensures ∙ sym (started-fresh (a .profile) (a .state) (u .result) (sym (c .before .before .is-accepted .ensures) ∙ c .before .if1 .taken)))
+    starts (begun (λ (refusal : Refusal). startedAt refusal (a .profile) (a .state)) _ (u .result) (c .fresh .result) (u .ensures)
+    (c .fresh .ensures ∙ sym (started-fresh (a .profile) (a .state) (u .result) (sym (c .before .before .is-accepted .ensures) ∙ c .before .if1 .taken))))
 
 returns-2 : tie.Need-returns-2
 returns-2 c =
     let a = c .before .before .before .before .args in
     let u = c .before .before .unstarted in
-    begun (λ (refusal : Refusal). startedAt refusal (a .profile) (a .state)) _ (u .result) (a .state) (u .ensures)
-    (sym (started-same (a .profile) (a .state) (u .result) (sym (c .before .is-accepted .ensures) ∙ c .if1 .left)))
+    starts (begun (λ (refusal : Refusal). startedAt refusal (a .profile) (a .state)) _ (u .result) (a .state) (u .ensures)
+    (sym (started-same (a .profile) (a .state) (u .result) (sym (c .before .is-accepted .ensures) ∙ c .if1 .left))))
 
 pub reset-spec : {M : Type 1} → statement M
 reset-spec =

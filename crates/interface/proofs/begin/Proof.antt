@@ -19,7 +19,7 @@ returns c =
     let profile-in = c .before .before .before .profile-in in
     let start = c .before .before .start in
     let a = c .before .before .before .before .before .before .args in
-    begin-refused (a .profile .now) (length (a .image .now)) (a .room) (profile-in .result) (profile-in .ensures) (start .result) (start .ensures)
+    begin-refused (a .profile .now) (length (a .image .now)) (a .room) (profile-in .result) (profile-in .ensures) (start .result) (start .ensures .is)
     (sym (c .before .is-accepted .ensures) ∙ not-true _ (c .if1 .taken))
 
 returns-2 : tie.Need-returns-2
@@ -28,7 +28,7 @@ returns-2 c =
     let start = c .before .before .before .before .start in
     let a = c .before .before .before .before .before .before .before .before .args in
     begun (λ (row : Refusal). startedAt row (profileIn (a .profile .now)) zeroState) _ (By WrongState) (c .zero .result) (begin-no-room (a .profile .now)
-    (length (a .image .now)) (a .room) (profile-in .result) (profile-in .ensures) (start .result) (start .ensures)
+    (length (a .image .now)) (a .room) (profile-in .result) (profile-in .ensures) (start .result) (start .ensures .is)
     (sym (c .before .before .before .is-accepted .ensures) ∙ not-false _ (c .before .before .if1 .left)) (c .before .if2 .taken)) (c .zero .ensures)
 
 returns-3 : tie.Need-returns-3
@@ -36,7 +36,7 @@ returns-3 c =
     let profile-in = c .before .before .before .before .profile-in in
     let start = c .before .before .before .start in
     let a = c .before .before .before .before .before .before .before .args in
-    begin-accepted (a .profile .now) (length (a .image .now)) (a .room) (profile-in .result) (profile-in .ensures) (start .result) (start .ensures)
+    begin-accepted (a .profile .now) (length (a .image .now)) (a .room) (profile-in .result) (profile-in .ensures) (start .result) (start .ensures .is)
     (sym (c .before .before .is-accepted .ensures) ∙ not-false _ (c .before .if1 .left)) (c .if2 .left)
 
 pub begin-spec : {M : Type 1} → statement M

@@ -5,12 +5,12 @@ use Rattle.record_driver.proofs.drive.Statement.{statement}
 use Rattle.record_driver.proofs.drive.Tie as tie
 
 returns : tie.Need-returns
-returns c = unstarted _ _ (c .before .before .before .start .ensures) (c .before .is-accepted .ensures) _ (c .if1 .taken)
+returns c = unstarted _ _ (c .before .before .before .start .ensures .is) (c .before .is-accepted .ensures) _ (c .if1 .taken)
 
 returns-2 : tie.Need-returns-2
 returns-2 c =
     unfed _ _
-    (c .before .before .before .before .before .before .before .before .before .before .before .before .before .before .before .before .start .ensures)
+    (c .before .before .before .before .before .before .before .before .before .before .before .before .before .before .before .before .start .ensures .is)
     (c .before .before .before .before .before .before .before .before .before .before .before .before .before .before .is-accepted .ensures)
     (c .before .before .before .before .before .before .before .before .before .before .before .before .before .if1 .left) _ _
     (c .before .before .before .before .before .before .before .before .feed .ensures) (c .before .is-accepted2 .ensures) _ (c .if2 .taken)
@@ -18,7 +18,7 @@ returns-2 c =
 run-requires : tie.Need-run-requires
 run-requires c κs =
     begun-ready _ _
-    (c .before .before .before .before .before .before .before .before .before .before .before .before .before .before .before .before .before .before .before .start .ensures)
+    (c .before .before .before .before .before .before .before .before .before .before .before .before .before .before .before .before .before .before .before .start .ensures .is)
     (c .before .before .before .before .before .before .before .before .before .before .before .before .before .before .before .before .before .is-accepted .ensures)
     (c .before .before .before .before .before .before .before .before .before .before .before .before .before .before .before .before .if1 .left) _ _
     (c .before .before .before .before .before .before .before .before .before .before .before .feed .ensures)
@@ -27,7 +27,7 @@ run-requires c κs =
 returns-3 : tie.Need-returns-3
 returns-3 c =
     driven _ _
-    (c .before .before .before .before .before .before .before .before .before .before .before .before .before .before .before .before .before .before .before .before .before .before .before .before .before .before .start .ensures)
+    (c .before .before .before .before .before .before .before .before .before .before .before .before .before .before .before .before .before .before .before .before .before .before .before .before .before .before .start .ensures .is)
     (c .before .before .before .before .before .before .before .before .before .before .before .before .before .before .before .before .before .before .before .before .before .before .before .before .is-accepted .ensures)
     (c .before .before .before .before .before .before .before .before .before .before .before .before .before .before .before .before .before .before .before .before .before .before .before .if1 .left)
     _ _

@@ -27,7 +27,7 @@ returns-2 c = called _ _ _ (c .enum-told .given .1) (stands-at (c .before .befor
 returns-3 : tie.Need-returns-3
 unfolding machineAfter bufferAfter callsOf
 returns-3 c = called _ _ _ (c .before .before .before .enum-told2 .given .1)
-    (reset-stands (c .before .before .before .before .before .before .before .before .before .pre .0) (c .before .reset .ensures))
+    (reset-stands (c .before .before .before .before .before .before .before .before .before .pre .0) (c .before .reset .ensures .is))
 
 returns-4 : tie.Need-returns-4
 unfolding machineAfter bufferAfter callsOf
