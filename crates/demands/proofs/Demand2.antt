@@ -1,0 +1,27 @@
+-- Demand 2, proved. Assumes nothing.
+use Rattle.flash.specs.Effects.{storing, erasing, stored, erased, blanked}
+use Rattle.flash.proofs.ByAddress.{changed-at, blanked-at}
+use Rattle.device_steps.proofs.Decided.{step-complete, step-early}
+use Rattle.device.proofs.Unique.{fed-once}
+use Rattle.demands.specs.Demand2.{Demand2}
+use Rattle.demands.proofs.Rows.{feed-ran}
+use Rattle.demands.proofs.Stopping.{feed-stops, quiet-byte, waking-byte, command-goes, write-goes, next-goes}
+
+pub demand-2 : Demand2
+unfolding stored erased
+demand-2 =
+    record {
+      leaves = λ p st input before after r f. feed-ran f;
+      once = λ p st input before after after′ r r′ f g. fed-once _ input st before after after′ r r′ _ (f .fed) (g .fed);
+      consumed = feed-stops;
+      complete = step-complete;
+      early = step-early;
+      quiet = quiet-byte;
+      waking = waking-byte;
+      command = command-goes;
+      write = write-goes;
+      next = next-goes;
+      erases = λ areas image x spot placed inside s e. changed-at areas image x spot placed inside 0 (erasing s e);
+      stores = λ areas image x spot placed inside s bytes. changed-at areas image x spot placed inside 0 (storing s bytes);
+      blanks = λ image i h. blanked-at image i 0 h;
+    }

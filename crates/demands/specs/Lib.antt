@@ -1,0 +1,5 @@
+pub mod Line
+pub mod Session
+pub mod Demand1
+pub mod Demand2
+pub mod Demand3
