@@ -153,7 +153,10 @@ uint32_t indraveck_payload(const uint8_t *receive, size_t receive_len, size_t co
  * (4 or 1) writes 0 there and leaves the image.
  *
  * A recording is records one behind the other: a mark 52h 4Ch, a direction (48h host, 44h device, 52h reset), a length in two bytes,
- * high byte first, and that many bytes. Each request is one host record, with the reply as the device record right behind it. */
+ * high byte first, and that many bytes. Each request is one host record, with the reply as the device record right behind it.
+ * A record without its partner does nothing: a host record that no device record follows at once, a device record with no host record
+ * right before it. A request in two host records is not put together, and does nothing: its first piece has no partner, and its second
+ * is no whole packet (one that happens to be counts as the request). */
 uint32_t indraveck_replay(const uint8_t *profile, size_t profile_len,
                           uint8_t *image, size_t image_len,
                           const uint8_t *recording, size_t recording_len,

@@ -1,13 +1,14 @@
 -- What a replay from outside leaves, from what the start and the play of the recording answered. Assumes nothing.
 use mathlib.Core.Bool.{true, false}
-use mathlib.Core.List.{List}
+use mathlib.Core.List.{List, _++_}
 use mathlib.Core.Path.{_≡_, refl, sym, ap, _∙_}
 use Prim.Native.Nat.{ℕ}
+use native.Mathlib.Omega.{arith}
 use lib.ListN.{length}
 use Rattle.profile.specs.declared.Profile.{Profile}
 use Rattle.profile.specs.Areas.{areasOf}
 use Rattle.recording.specs.Recording.{recordsOf}
-use Rattle.record_exchange.specs.Line.{exchangesOf}
+use Rattle.record_exchange.specs.Line.{Entry, exchangesOf}
 use Rattle.record_replay.specs.Replay.{replay}
 use Rattle.record_replay.specs.Post.{Played}
 use Rattle.state.specs.State.{zeroState}
@@ -27,10 +28,26 @@ module _ (profile recording before : List ℕ) (p : Profile) (q : p ≡ profileI
   pub left : isAccepted (begun .refusal) ≡ false → (r : ℕ) → r ≡ numberOf (begun .refusal) → Replayed profile recording before before r 0
   left f r m =
       let g : isAccepted (startRefusal (profileIn profile) (length before)) ≡ false = ap isAccepted (sym first) ∙ f in
-      record { number = m ∙ ap numberOf first; image = simp g; count = simp g }
+      let never : startRefusal (profileIn profile) (length before) ≡ Accepted → ⊥ =
+      λ a. let both : false ≡ true = sym g ∙ ap isAccepted a in let z : _≡_ {A = ℕ} 0 1 = cc in omega arith in
+      record {
+        number = m ∙ ap numberOf first;
+        image = simp g;
+        count = simp g;
+        own = λ ok es c i. absurd (never ok);
+        strays = λ ok a b stray h i. absurd (never ok);
+      }
 
   pub replayed : isAccepted (begun .refusal) ≡ true → (after : List ℕ) (read : ℕ) → Played p recording before after read
       → Replayed profile recording before after 0 read
   replayed t after read played =
       let a : startRefusal (profileIn profile) (length before) ≡ Accepted = sym first ∙ is-accepted (begun .refusal) t in
-      record { number = rw a refl; image = rw a (played .image ∙ ap (λ (x : Profile). replay (areasOf x) before (exchangesOf (recordsOf recording))) q); count = rw a (played .read) }
+      let same : (es : List Entry) → replay (areasOf p) before es ≡ replay (areasOf (profileIn profile)) before es =
+      λ es. ap (λ (x : Profile). replay (areasOf x) before es) q in
+      record {
+        number = rw a refl;
+        image = rw a (played .image ∙ same (exchangesOf (recordsOf recording)));
+        count = rw a (played .read);
+        own = λ ok es c i. played .own es c i ∙ same es;
+        strays = λ ok k l stray h i. played .strays k l stray h i ∙ same (exchangesOf (k ++ l));
+      }

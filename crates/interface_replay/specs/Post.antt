@@ -1,14 +1,15 @@
 -- What a replay from outside leaves, by name.
 use mathlib.Core.Bool.{cond}
-use mathlib.Core.List.{List}
+use mathlib.Core.List.{List, _∷_, _++_}
 use mathlib.Core.Path.{_≡_}
 use Prim.Native.Nat.{ℕ}
 use lib.ListN.{length}
 use Rattle.profile.specs.Areas.{areasOf}
-use Rattle.recording.specs.Recording.{recordsOf, readable}
-use Rattle.record_exchange.specs.Line.{exchangesOf}
+use Rattle.recording.specs.Recording.{Record, recordsOf, readable, written, Countable}
+use Rattle.record_exchange.specs.Line.{Entry, exchangesOf, taped, Stray}
 use Rattle.record_replay.specs.Replay.{replay}
 use Rattle.device_calls.specs.declared.Refusal.{Refusal}
+use Rattle.device_calls.specs.declared.Refusal.the-variants.{Accepted}
 use Rattle.device_calls.specs.Calls.{numberOf, isAccepted, startRefusal}
 use Rattle.profile_bytes.specs.Profile.{profileIn}
 
@@ -24,3 +25,9 @@ pub record Replayed (profile recording before after : List ℕ) (r read : ℕ) :
   pub number : r ≡ numberOf (startRefusal (profileIn profile) (length before))
   pub image : after ≡ imageBy (startRefusal (profileIn profile) (length before)) profile recording before
   pub count : read ≡ readBy (startRefusal (profileIn profile) (length before)) recording
+  -- where it is accepted: a recording that a line's own record makes gives the replay of that record
+  pub own : startRefusal (profileIn profile) (length before) ≡ Accepted → (es : List Entry) → Countable (taped es) → recording ≡ written (taped es)
+      → after ≡ replay (areasOf (profileIn profile)) before es
+  -- and a record that is no half of a pair does nothing
+  pub strays : startRefusal (profileIn profile) (length before) ≡ Accepted → (a b : List Record) (stray : Record) → Stray a stray b
+      → recordsOf recording ≡ a ++ stray ∷ b → after ≡ replay (areasOf (profileIn profile)) before (exchangesOf (a ++ b))

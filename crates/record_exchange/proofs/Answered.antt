@@ -7,7 +7,7 @@ use lib.ListN.{getD, replicate}
 use Rattle.numbers.specs.Bytes.{bytesOf}
 use Rattle.verdict.specs.declared.Verdict.the-variants.{Granted}
 use Rattle.packet.specs.declared.Kind.the-variants.{Data}
-use Rattle.packet.specs.Packet.{permitted, frame}
+use Rattle.packet.specs.Packet.{permitted, frame, good}
 use Rattle.packet.specs.Frame.{front, hasRoom, Framed}
 use Rattle.packet_fields.specs.Fields.{codeAt}
 use Rattle.packet_reply.specs.Reply.{statusContents, statusReply}
@@ -25,6 +25,11 @@ either-way true a = refl
 either-way false a = refl
 
 module _ (q reply : List ℕ) (landing : Landing) where
+  -- what is no whole packet with right ETX and SUM, as a piece of one
+  pub unwhole : good q ≡ false → exchangeRead q reply landing ≡ idle landing
+  unfolding exchangeRead
+  unwhole h = rw h refl
+
   -- what was not answered OK
   pub unanswered : answeredOk q reply ≡ false → exchangeRead q reply landing ≡ idle landing
   unfolding exchangeRead commandRead dataRead

@@ -17,14 +17,15 @@ use Rattle.packet_fields.specs.Fields.{valueOf, fourAt}
 use Rattle.recording.specs.declared.Part.{Part}
 use Rattle.recording.specs.declared.Found.{Found}
 use Rattle.recording.specs.declared.Found.the-variants.{Host, Device, Reset, End, Unreadable}
-use Rattle.recording.specs.Recording.{foundAt, bytesIn, recordsFrom, stopFrom, readable, LiesBehind}
+use Rattle.recording.specs.Recording.{Record, foundAt, bytesIn, recordsFrom, recordsOf, stopFrom, readable, LiesBehind}
 use Rattle.recording.proofs.Reading.{found-host, found-device, found-reset, records-host, records-device, records-reset, stop-host, stop-device, stop-reset, records-end, records-unreadable, stop-end, stop-unreadable}
 use Rattle.recording.proofs.Laws.{found-end}
 use Rattle.record_exchange.specs.declared.Landing.{Landing}
 use Rattle.record_exchange.specs.declared.Landing.the-variants.{Nowhere, At}
 use Rattle.record_exchange.specs.Exchange.{dataTold, exchangeRead, CanMove}
-use Rattle.record_exchange.specs.Line.{exchange, exchangesFrom}
+use Rattle.record_exchange.specs.Line.{Entry, exchange, exchangesFrom, exchangesOf}
 use Rattle.record_exchange.proofs.Landings.{lands}
+use Rattle.record_exchange.proofs.Tapes.{tape-back, stray-unseen}
 use Rattle.record_replay.specs.declared.Head.{Head}
 use Rattle.record_replay.specs.declared.Waiting.{Waiting}
 use Rattle.record_replay.specs.declared.Waiting.the-variants.{Nothing, For}
@@ -182,6 +183,17 @@ apart e = subst (λ (b : Bool). cond b (Unit {0}) ⊥) e tt
 pub no-record : (found other : Found) → found ≡ other → isRecord found ≡ true → isRecord other ≡ false → ⊥
 no-record found other e r n = apart (sym r ∙ ap isRecord e ∙ n)
 
+-- what playing promises of a line's own record and of strays follows from the image
+pub played : (p : Profile) (s im₀ im : List ℕ) (r : ℕ) → im ≡ replay (areasOf p) im₀ (exchangesOf (recordsOf s)) → r ≡ readable s → Played p s im₀ im r
+played p s im₀ im r e n =
+    let gives : List Entry → List ℕ = λ es. replay (areasOf p) im₀ es in
+    record {
+      image = e;
+      read = n;
+      own = λ es c i. e ∙ ap (λ (l : List ℕ). gives (exchangesOf (recordsOf l))) i ∙ ap gives (tape-back es c);
+      strays = λ a b stray h i. e ∙ ap (λ (l : List Record). gives (exchangesOf l)) i ∙ ap gives (stray-unseen a b stray h);
+    }
+
 -- a recording that was played from the start up to a head
 pub record Plays (p : Profile) (s im₀ im : List ℕ) (head : Head) : Type 0 where
   pub same : playedFrom p s im head ≡ playedFrom p s im₀ (record { at = 0; landing = Nowhere; waiting = Nothing })
@@ -200,10 +212,7 @@ module _ (p : Profile) (s im₀ im : List ℕ) (head : Head) (h : Plays p s im�
   -- nothing is left to play
   over : recordsFrom s (head .at) ≡ [] → stopFrom s (head .at) ≡ head .at → Played p s im₀ im (head .at)
   unfolding replay replayFrom exchangesFrom
-  over r e = record {
-    image = ap (λ (t : Tape). t .image) (rw r at (h .same));
-    read = sym e ∙ h .stops;
-  }
+  over r e = played p s im₀ im (head .at) (ap (λ (t : Tape). t .image) (rw r at (h .same))) (sym e ∙ h .stops)
 
   -- no record stands there
   pub plays-over : (found : Found) → foundAt s (head .at) ≡ found → isRecord found ≡ false → Played p s im₀ im (head .at)

@@ -1,6 +1,6 @@
 -- What playing a recording leaves.
 use mathlib.Core.Bool.{Bool, true, false}
-use mathlib.Core.List.{List}
+use mathlib.Core.List.{List, _∷_, _++_}
 use mathlib.Core.Path.{_≡_}
 use mathlib.Core.Option.{Option, none, some}
 use Prim.Native.Nat.{ℕ, _+_, _≤_, _<_}
@@ -9,8 +9,8 @@ use Rattle.profile.specs.Areas.{areasOf}
 use lib.ListN.{length}
 use Rattle.recording.specs.declared.Found.{Found}
 use Rattle.recording.specs.declared.Found.the-variants.{Host, Device, Reset, End, Unreadable}
-use Rattle.recording.specs.Recording.{bytesIn, recordsFrom, recordsOf, stopFrom, readable}
-use Rattle.record_exchange.specs.Line.{exchangesFrom, exchangesOf}
+use Rattle.recording.specs.Recording.{Record, bytesIn, recordsFrom, recordsOf, stopFrom, readable, written, Countable}
+use Rattle.record_exchange.specs.Line.{Entry, exchangesFrom, exchangesOf, taped, Stray}
 use Rattle.record_replay.specs.Replay.{Tape, replayFrom, replay}
 use Rattle.record_replay.specs.declared.Head.{Head}
 use Rattle.record_replay.specs.declared.Waiting.{Waiting}
@@ -21,6 +21,11 @@ use Rattle.record_exchange.specs.declared.Landing.the-variants.{Nowhere, At}
 pub record Played (p : Profile) (recording before after : List ℕ) (r : ℕ) : Type 0 where
   pub image : after ≡ replay (areasOf p) before (exchangesOf (recordsOf recording))
   pub read : r ≡ readable recording
+  -- a recording that a line's own record makes gives the replay of that record
+  pub own : (es : List Entry) → Countable (taped es) → recording ≡ written (taped es) → after ≡ replay (areasOf p) before es
+  -- a record that is no half of a pair does nothing: without it the image is the same
+  pub strays : (a b : List Record) (stray : Record) → Stray a stray b → recordsOf recording ≡ a ++ stray ∷ b
+      → after ≡ replay (areasOf p) before (exchangesOf (a ++ b))
 
 -- a landing place of at most n
 abbrev pub LandsBelow : Landing → ℕ → Type 0
