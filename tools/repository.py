@@ -156,6 +156,9 @@ class Function:
     clauses: dict  # "requires" and "ensures", each with the texts of its clauses
     body: str
     length: int  # lines that say something, from `fn` to the closing brace
+    start: int  # its place in the file, from `fn` to behind the closing brace
+    end: int
+    inner: bool  # pub(crate): for its own crate only
 
     def where(self):
         return f"{short(self.path)}:{self.line} {self.name}"
@@ -203,7 +206,8 @@ def functions(crate):
             end = line_end if text[at:line_end].rstrip().endswith(("}", ";")) else last.end() if last else len(text)
             length = sum(1 for line in text[found.start():end].splitlines() if line.strip())
             yield Function(crate.name, path, text.count("\n", 0, found.start(4)) + 1, found[4], bool(found[2]),
-                           bool(found[3]), signature, clauses, text[at:end], length)
+                           bool(found[3]), signature, clauses, text[at:end], length, found.start(), end,
+                           bool(found[2]) and found[2] != "pub ")
 
 
 # ---- definitions
@@ -240,3 +244,18 @@ def definitions(crate_name, path):
             if made and re.search(r"\bdata\b", " ".join(found[-1].lines[:2])):
                 found[-1].makes.append(made[1])
     return found
+
+
+# ---- edits
+
+def pairs(edit):
+    """(file, old, new) for each replacement of an edit, as rt reads it."""
+    file, old = "", ""
+    for line in edit.read_text().splitlines():
+        if line.startswith("file: "):
+            file = line[6:]
+        elif line.startswith("old: "):
+            old = line[5:]
+        elif line.startswith("new:"):
+            yield file, old, line[4:].removeprefix(" ")
+            old = ""
