@@ -20,6 +20,7 @@ use Rattle.record_history.specs.Faithful.{NextAccepted}
 use Rattle.record_history.proofs.Cut.{cut-anywhere, cut-record}
 use Rattle.record_history.proofs.Demand3.{faithful}
 use Rattle.record_history.proofs.Replayed.{replayed}
+use Rattle.record_history.proofs.Taped.{own-recording}
 use Rattle.demands.specs.Session.{lentBy, machineIn, Turn, historyOf}
 use Rattle.demands.specs.Demand3.{left, FromStart, keptSince, Demand3}
 use Rattle.demands.proofs.Rows.{start-refusal, start-fresh, drive-ran}
@@ -57,5 +58,6 @@ demand-3 =
       flash = flash-kept;
       goes-on = next-kept;
       driven = λ p script before after r f e. drive-ran p script before after r f e .image;
+      played = own-recording;
       blind = units-unseen;
     }

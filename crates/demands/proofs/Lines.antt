@@ -1,33 +1,26 @@
 -- What holds of each byte of a line; which replies are packets; the record of a line, and that nothing else is one. Assumes nothing.
-use mathlib.Core.Bool.{Bool, true, false, _||_, cond}
-use mathlib.Core.List.{List, [], _∷_, _++_, append-assoc, append-nil}
-use mathlib.Core.Logic.{_⊎_, inl, inr, ⊎-elim, _↔_}
-use mathlib.Core.Path.{_≡_, refl, sym, ap, subst, _∙_}
-use Prim.Native.Nat.{ℕ, _≤_, _<_}
+use mathlib.Core.List.{List, [], _∷_, _++_}
+use mathlib.Core.Logic.{⊎-elim, _↔_}
+use mathlib.Core.Path.{_≡_, refl, sym, ap, _∙_}
+use Prim.Native.Nat.{ℕ, _≤_}
 use native.Mathlib.Omega.{arith}
 use lib.ListN.{length}
 use borrow.Author.Tests.{le-leb}
 use Rattle.profile.specs.declared.Profile.{Profile}
-use Rattle.profile_rules.specs.Rules.{Accepted as Acceptable}
-use Rattle.packet.specs.declared.Kind.{Kind}
 use Rattle.packet.specs.declared.Kind.the-variants.{Data}
-use Rattle.packet.specs.declared.Progress.{Progress}
-use Rattle.packet.specs.declared.Progress.the-variants.{Partial, Unfit, Complete}
-use Rattle.packet.specs.Packet.{permitted, frame, good, progressOf, lengthOf, isPartial}
-use Rattle.packet.proofs.Laws.{impossible, permitted-least}
+use Rattle.packet.specs.Packet.{permitted, good, lengthOf}
+use Rattle.packet.proofs.Laws.{permitted-least}
 use Rattle.packet.proofs.Frames.{frame-good}
-use Rattle.packet.proofs.Gathering.{Held, held, good-is}
-use Rattle.packet.proofs.Partial.{is-partial}
-use Rattle.state.specs.declared.Awaited.{Awaited}
-use Rattle.state.specs.declared.Awaited.the-variants.{WakeUp, Packet}
-use Rattle.state.specs.Awaits.{awaitsOf, heldFits}
-use Rattle.record_exchange.specs.Line.{Entry, exchange, restart}
+use Rattle.packet.proofs.Gathering.{good-is}
+use Rattle.state.specs.Awaits.{awaitsOf}
+use Rattle.record_exchange.specs.Line.{Entry, restart}
 use Rattle.device_steps.specs.Step.{Machine, stepOf}
-use Rattle.device_steps.specs.Records.{heardWith, completes, refuses}
-use Rattle.device_steps.proofs.Replies.{IsPacket, packet-exactly, packet-step, Unasked, quiet-step}
+use Rattle.device_steps.specs.Records.{Brings}
+use Rattle.device_steps.proofs.Replies.{IsPacket, unbrought, brings-or, unasked-few, quiet-step, packet-step}
 use Rattle.record_history.specs.History.{Call, deliver, again, freshOf, hearing, machineAfter, entriesAt, heardRecord, recordOf}
 use Rattle.record_history.proofs.Cut.{record-append}
-use Rattle.demands.specs.Line.{Brings, IsReply, EachIn, EachByte, packetsIn, answersIn, IsRecord}
+use Rattle.record_history.proofs.Recorded.{entry-asked, entry-unasked, reset-recorded, record-continued, delivery-record, byte-record}
+use Rattle.demands.specs.Line.{IsReply, EachIn, EachByte, IsRecord}
 
 -- a packet that was built is whole and good
 pub packet-good : {reply : List ℕ} → IsPacket reply → IsReply reply
@@ -44,36 +37,16 @@ good-least q g =
     let least : 1 ≤ lengthOf q = permitted-least (k .kind) (lengthOf q) (k .is .permits) in
     omega (arith, k .is .count)
 
--- what answers no request has a byte at most
-few : (a : Awaited) (r : List ℕ) → Unasked a r → length r ≤ 1
-few (WakeUp u) r w = ⊎-elim (λ e. rw e (omega arith)) (λ x. ⊎-elim (λ e. rw e (omega arith)) (λ e. rw e (omega arith)) x) w
-few (Packet kind) r e = rw e (omega arith)
-
 module _ (p : Profile) (m : Machine) (b : ℕ) where
-  pub unbrought : (Brings m b → ⊥) → (completes m b ≡ false) × (refuses m b ≡ false)
-  unbrought n = (by (completes m b) (λ e. n (inl e)), by (refuses m b) (λ e. n (inr e)))
-    where
-      by : (t : Bool) → (t ≡ true → ⊥) → t ≡ false
-      by true h = absurd (h refl)
-      by false h = refl
-
-  pub brings-or : Brings m b ⊎ (Brings m b → ⊥)
-  brings-or = by (completes m b) (refuses m b) refl refl
-    where
-      by : (s t : Bool) → completes m b ≡ s → refuses m b ≡ t → Brings m b ⊎ (Brings m b → ⊥)
-      by true t c f = inl (inl c)
-      by false true c f = inl (inr f)
-      by false false c f = inr (λ h. ⊎-elim (λ e. impossible (cc)) (λ e. impossible (cc)) h)
-
   pub answered-exactly : Brings m b ↔ IsReply (stepOf p m b .reply)
   answered-exactly =
-      (λ h. packet-good (packet-step p m b h), λ g. ⊎-elim (λ h. h) (λ n. absurd (none n g)) brings-or)
+      (λ h. packet-good (packet-step p m b h), λ g. ⊎-elim (λ h. h) (λ n. absurd (none n g)) (brings-or m b))
     where
       none : (Brings m b → ⊥) → IsReply (stepOf p m b .reply) → ⊥
       none n g =
-          let u = unbrought n in
+          let u = unbrought m b n in
           let least : 6 ≤ length (stepOf p m b .reply) = good-least (stepOf p m b .reply) g in
-          let most : length (stepOf p m b .reply) ≤ 1 = few (awaitsOf (m .state .stage)) (stepOf p m b .reply) (quiet-step p m b (u .0) (u .1)) in
+          let most : length (stepOf p m b .reply) ≤ 1 = unasked-few (awaitsOf (m .state .stage)) (stepOf p m b .reply) (quiet-step p m b (u .0) (u .1)) in
           omega arith
 
 -- what holds of each byte
@@ -94,55 +67,14 @@ pub silent-exactly : (p : Profile) (m : Machine) (calls : List Call)
 silent-exactly p m calls =
     (each-byte (λ k b n g. n (answered-exactly p k b .1 g)) p m calls, each-byte (λ k b n h. n (answered-exactly p k b .0 h)) p m calls)
 
--- the record, one call after the other
-pub record-continued : (p : Profile) (m : Machine) (first later : List Call)
-    → recordOf p m (first ++ later) ≡ recordOf p m first ++ recordOf p (machineAfter p m first) later
-unfolding recordOf machineAfter
-record-continued p m [] later = refl
-record-continued p m (deliver bs ∷ first) later =
-    let s : Machine = hearing p m bs in
-    ap (λ (es : List Entry). heardRecord p m bs ++ es) (record-continued p s first later)
-    ∙ sym (append-assoc (heardRecord p m bs) (recordOf p s first) (recordOf p (machineAfter p s first) later))
-record-continued p m (again ∷ first) later = ap (λ (es : List Entry). restart ∷ es) (record-continued p (freshOf p (m .image)) first later)
-
-pub machine-continued : (p : Profile) (m : Machine) (first later : List Call)
-    → machineAfter p m (first ++ later) ≡ machineAfter p (machineAfter p m first) later
-unfolding machineAfter
-machine-continued p m [] later = refl
-machine-continued p m (deliver bs ∷ first) later = machine-continued p (hearing p m bs) first later
-machine-continued p m (again ∷ first) later = machine-continued p (freshOf p (m .image)) first later
-
--- of one delivery, and of one byte
-pub delivery-record : (p : Profile) (m : Machine) (bs : List ℕ) → recordOf p m (deliver bs ∷ []) ≡ heardRecord p m bs
-unfolding recordOf
-delivery-record p m bs = append-nil (heardRecord p m bs)
-
-byte-record : (p : Profile) (m : Machine) (b : ℕ) → recordOf p m (deliver (b ∷ []) ∷ []) ≡ entriesAt p m b
-unfolding heardRecord
-byte-record p m b = delivery-record p m (b ∷ []) ∙ append-nil (entriesAt p m b)
-
-module _ (p : Profile) (m : Machine) (b : ℕ) where
-  pub entry-asked : Brings m b → entriesAt p m b ≡ exchange (heardWith m b) (stepOf p m b .reply) ∷ []
-  unfolding entriesAt
-  entry-asked h = by (completes m b) (refuses m b) refl refl
-    where
-      by : (s t : Bool) → completes m b ≡ s → refuses m b ≡ t
-          → cond (s || t) (exchange (heardWith m b) (stepOf p m b .reply) ∷ []) [] ≡ exchange (heardWith m b) (stepOf p m b .reply) ∷ []
-      by true t c f = refl
-      by false true c f = refl
-      by false false c f = absurd (⊎-elim (λ e. impossible (cc)) (λ e. impossible (cc)) h)
-
-  pub entry-unasked : (Brings m b → ⊥) → entriesAt p m b ≡ []
-  unfolding entriesAt
-  entry-unasked n = let u = unbrought p m b n in rw (u .0, u .1) refl
-
+-- the line's record has these properties
 pub record-is : (p : Profile) → IsRecord p (recordOf p)
 unfolding recordOf heardRecord
 record-is p =
     record {
       asked = λ m b h. byte-record p m b ∙ entry-asked p m b h;
       unasked = λ m b n. byte-record p m b ∙ entry-unasked p m b n;
-      resets = λ m. refl;
+      resets = reset-recorded p;
       none = λ m. refl;
       empty = λ m. refl;
       joined = λ m bs cs.
@@ -157,7 +89,7 @@ record-is p =
 module _ (p : Profile) (f : Machine → List Call → List Entry) (is : IsRecord p f) where
   byte-once : (m : Machine) (b : ℕ) → f m (deliver (b ∷ []) ∷ []) ≡ entriesAt p m b
   byte-once m b =
-      ⊎-elim (λ h. is .asked m b h ∙ sym (entry-asked p m b h)) (λ n. is .unasked m b n ∙ sym (entry-unasked p m b n)) (brings-or p m b)
+      ⊎-elim (λ h. is .asked m b h ∙ sym (entry-asked p m b h)) (λ n. is .unasked m b n ∙ sym (entry-unasked p m b n)) (brings-or m b)
 
   delivery-once : (m : Machine) (bs : List ℕ) → f m (deliver bs ∷ []) ≡ heardRecord p m bs
   unfolding heardRecord hearing

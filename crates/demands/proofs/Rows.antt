@@ -6,8 +6,8 @@ use mathlib.Core.Path.{_≡_, refl, sym, ap, subst, _∙_}
 use Prim.Native.Nat.{ℕ}
 use lib.ListN.{length}
 use lib.Dec.{eqb}
-use Rattle.verdict.specs.Check.{Check, _gives_, firstFault, NoneApplies}
-use Rattle.verdict.proofs.FirstFault.{clear, grants, first}
+use Rattle.verdict.specs.Check.{Check, firstFault}
+use Rattle.verdict.proofs.FirstFault.{clear, grants, first, first-found}
 use Rattle.profile.specs.declared.Profile.{Profile}
 use Rattle.packet.proofs.Laws.{impossible}
 use Rattle.state.specs.declared.State.{State}
@@ -25,22 +25,7 @@ use Rattle.device.specs.declared.Fed.{Fed}
 use Rattle.device.specs.Post.{Ran, Unfed, FedBy, Feeds}
 use Rattle.record_driver.specs.declared.Driven.{Driven}
 use Rattle.record_driver.specs.Post.{Drove, Undriven, DrivenBy, Drives}
-use Rattle.demands.specs.Line.{IsFirst}
 use Rattle.demands.specs.Demand1.{ByRows}
-
--- the first fault is what the ordered checks give
-behind-quiet : {A : Type 0} (before : List (Check A)) (a : A) (behind : List (Check A)) → NoneApplies before
-    → firstFault (before ++ (true gives a) ∷ behind) ≡ some a
-unfolding firstFault NoneApplies
-behind-quiet [] a behind n = refl
-behind-quiet ((true gives b) ∷ before) a behind n = impossible (cc (n .0))
-behind-quiet ((false gives b) ∷ before) a behind n = behind-quiet before a behind (n .1)
-
-pub first-found : {A : Type 0} (cs : List (Check A)) (a : A) → IsFirst cs a → firstFault cs ≡ some a
-first-found cs a f = ap firstFault (f .split) ∙ behind-quiet (f .before) a (f .behind) (f .quiet)
-
-pub found-first : {A : Type 0} (cs : List (Check A)) (a : A) → firstFault cs ≡ some a → IsFirst cs a
-found-first cs a e = let f = first cs a e in record { before = f .before; behind = f .behind; split = f .split; quiet = f .quiet }
 
 by-row : (f : Option Row) (row : Row) → refusalOf f ≡ By row → f ≡ some row
 by-row none row e = impossible (cc)
@@ -50,7 +35,7 @@ pub by-rows : (rows : List (Check Row)) {refusal : Refusal} → refusal ≡ refu
 by-rows rows e =
     record {
       accepted = (λ h. clear rows (no-row (firstFault rows) (sym e ∙ h)), λ n. e ∙ ap refusalOf (grants rows n));
-      refused = λ row. (λ h. found-first rows row (by-row (firstFault rows) row (sym e ∙ h)), λ f. e ∙ ap refusalOf (first-found rows row f));
+      refused = λ row. (λ h. first rows row (by-row (firstFault rows) row (sym e ∙ h)), λ f. e ∙ ap refusalOf (first-found rows row f));
     }
 
 -- starting and resetting

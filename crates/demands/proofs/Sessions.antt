@@ -22,18 +22,20 @@ use Rattle.device_calls.specs.declared.Started.{Started}
 use Rattle.device_calls.specs.Calls.{Lent, isAccepted, Starts}
 use Rattle.device_steps.specs.Step.{Machine, stepOf}
 use Rattle.device_steps.specs.Feed.{Delivery, feedOf}
-use Rattle.device_steps.proofs.Delivered.{by-reply, nothing}
+use Rattle.device_steps.specs.Records.{Brings}
+use Rattle.device_steps.proofs.Delivered.{by-reply}
+use Rattle.device_steps.proofs.Replies.{brings-or}
 use Rattle.device.specs.declared.Fed.{Fed}
 use Rattle.device.specs.Post.{Ran, Unfed, Feeds}
 use Rattle.device.proofs.Turns.{machine-eq}
 use Rattle.record_exchange.specs.Line.{Entry, exchange, restart}
 use Rattle.record_history.specs.History.{Call, deliver, again, freshOf, hearing, machineAfter, entriesAt, heardRecord, recordOf}
 use Rattle.record_history.proofs.Cut.{feed-hears}
-use Rattle.record_history.proofs.Recorded.{unanswered-entry}
-use Rattle.demands.specs.Line.{Brings, IsReply, packetsIn, answersIn}
+use Rattle.record_history.proofs.Recorded.{unanswered-entry, entry-asked, entry-unasked, record-continued, machine-continued, delivery-record}
+use Rattle.demands.specs.Line.{IsReply, packetsIn, answersIn}
 use Rattle.demands.specs.Session.{Kept, lentBy, machineIn, Turn, feeding, resetting, mistaking, Met, keptBy, keptAfter, AllMet, resetIn, callsIn, historyOf, replyOf, gotBy, gotIn}
 use Rattle.demands.proofs.Rows.{feed-ran, feed-unfed, start-keeps, start-fresh}
-use Rattle.demands.proofs.Lines.{good-least, answered-exactly, brings-or, entry-asked, entry-unasked, record-continued, machine-continued, delivery-record}
+use Rattle.demands.proofs.Lines.{good-least, answered-exactly}
 
 -- lists of replies, one after the other
 packets-append : (a b : List (List ℕ)) → packetsIn (a ++ b) ≡ packetsIn a ++ packetsIn b
@@ -85,7 +87,7 @@ byte-answers p m b =
     ⊎-elim
     (λ (h : Brings m b). sent-packet (stepOf p m b .reply) (answered-exactly p m b .0 h) ∙ sym (ap answersIn (entry-asked p m b h)))
     (λ (n : Brings m b → ⊥). sent-other (stepOf p m b .reply) (λ g. n (answered-exactly p m b .1 g)) ∙ sym (ap answersIn (entry-unasked p m b n)))
-    (brings-or p m b)
+    (brings-or m b)
 
 -- a feed's reply is a packet exactly where the bytes that it consumed leave an entry
 feed-answers : (p : Profile) (m : Machine) (bs : List ℕ)

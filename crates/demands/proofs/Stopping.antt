@@ -11,7 +11,7 @@ use lib.ListN.{length}
 use Rattle.verdict.specs.declared.Reason.{Reason}
 use Rattle.verdict.specs.declared.Verdict.the-variants.{Granted, Refused}
 use Rattle.verdict.specs.Check.{Check, firstFault, NoneApplies}
-use Rattle.verdict.proofs.FirstFault.{clear, grants}
+use Rattle.verdict.proofs.FirstFault.{clear, grants, first-found}
 use Rattle.profile.specs.declared.Profile.{Profile}
 use Rattle.profile.specs.Areas.{areasOf}
 use Rattle.packet.specs.declared.Kind.{Kind}
@@ -40,15 +40,13 @@ use Rattle.answer_transfer.specs.Transfers.{readPacket, writeDecided, answerWri
 use Rattle.answer_waking.specs.Wake.{wakeOf}
 use Rattle.device_steps.specs.Step.{Machine, Step, settled, heard, stepIn, stepOf}
 use Rattle.device_steps.specs.Feed.{Delivery, feedOf}
-use Rattle.device_steps.specs.Records.{isUnfit, progressIn, heardWith, completes, refuses}
+use Rattle.device_steps.specs.Records.{isUnfit, progressIn, heardWith, completes, refuses, Brings}
 use Rattle.device_steps.proofs.Decided.{RefusedWith, command-refused, command-granted, command-told, write-refused, write-granted, write-told, next-refused, next-granted, next-told}
 use Rattle.device_steps.proofs.Delivered.{later, atOnce, nothing, by-reply}
-use Rattle.device_steps.proofs.Replies.{Unasked, quiet-step}
+use Rattle.device_steps.proofs.Replies.{Unasked, unbrought, quiet-step}
 use Rattle.record_history.specs.History.{hearing}
-use Rattle.demands.specs.Line.{IsFirst, Brings, EachIn}
+use Rattle.demands.specs.Line.{EachIn}
 use Rattle.demands.specs.Demand2.{HeardAll, StopsBehind, GoesBy}
-use Rattle.demands.proofs.Rows.{first-found}
-use Rattle.demands.proofs.Lines.{unbrought}
 
 -- a byte more in front, which is not answered
 module _ (p : Profile) (m : Machine) (b : ℕ) (bs : List ℕ) (quiet : length (stepOf p m b .reply) ≡ 0) where
@@ -139,7 +137,7 @@ module _ (p : Profile) (m : Machine) (b : ℕ) where
       → (stepOf p m b .reply ≡ []) × (stepOf p m b .machine .image ≡ m .image)
   unfolding stepOf completes refuses
   quiet-byte kind e n =
-      let u = unbrought p m b n in
+      let u = unbrought m b n in
       (subst (λ (a : Awaited). Unasked a (stepOf p m b .reply)) e (quiet-step p m b (u .0) (u .1)), image-in kind (awaitsOf (m .state .stage)) e (u .0) (u .1))
 
   pub waking-byte : (pulse : Pulse) → m .state .stage ≡ Setting pulse → stepOf p m b ≡ settled p m [] (wakeOf p (m .image) (m .state) pulse b)

@@ -6,7 +6,7 @@ use mathlib.Core.Logic.{_↔_}
 use mathlib.Core.Path.{_≡_}
 use Prim.Native.Nat.{ℕ}
 use lib.ListN.{length}
-use Rattle.verdict.specs.Check.{Check, NoneApplies}
+use Rattle.verdict.specs.Check.{Check, NoneApplies, IsFirst}
 use Rattle.profile.specs.declared.Profile.{Profile}
 use Rattle.state.specs.declared.State.{State}
 use Rattle.state.specs.State.{freshState, zeroState}
@@ -16,12 +16,13 @@ use Rattle.device_calls.specs.declared.Refusal.the-variants.{Accepted, By}
 use Rattle.device_calls.specs.declared.Started.{Started}
 use Rattle.device_calls.specs.Calls.{Lent, numberOf, startRows, feedRows, Starts}
 use Rattle.device_steps.specs.Step.{Machine, stepOf}
+use Rattle.device_steps.specs.Records.{Brings}
 use Rattle.device.specs.declared.Fed.{Fed}
 use Rattle.device.specs.Post.{Unfed, Feeds}
 use Rattle.record_history.specs.History.{Call, recordOf}
 use Rattle.record_driver.specs.declared.Driven.{Driven}
 use Rattle.record_driver.specs.Post.{Undriven, Drives}
-use Rattle.demands.specs.Line.{IsFirst, Brings, IsReply, EachByte, packetsIn, answersIn}
+use Rattle.demands.specs.Line.{IsReply, EachByte, packetsIn, answersIn}
 use Rattle.demands.specs.Session.{Kept, machineIn, Turn, AllMet, historyOf, gotIn}
 
 -- a call is accepted exactly when none of its rows applies, and refused by a row exactly when that is the first that applies

@@ -5,10 +5,10 @@ use mathlib.Core.List.{List, [], _∷_, _++_}
 use mathlib.Core.Logic.{_⊎_, _↔_}
 use mathlib.Core.Path.{_≡_}
 use Prim.Native.Nat.{ℕ, _+_, _<_}
-use lib.ListN.{length, take, getD}
+use lib.ListN.{length, getD}
 use Rattle.verdict.specs.declared.Reason.{Reason}
 use Rattle.verdict.specs.declared.Verdict.the-variants.{Granted, Refused}
-use Rattle.verdict.specs.Check.{Check, NoneApplies}
+use Rattle.verdict.specs.Check.{Check, NoneApplies, IsFirst}
 use Rattle.profile.specs.declared.Area.{Area}
 use Rattle.profile.specs.declared.Profile.{Profile}
 use Rattle.profile.specs.declared.Place.the-variants.{In}
@@ -38,18 +38,11 @@ use Rattle.device_calls.specs.declared.Refusal.the-variants.{Accepted}
 use Rattle.device_calls.specs.Calls.{Lent}
 use Rattle.device_steps.specs.Step.{Machine, machineOf, settled, refusedEarly, answerOf, stepOf}
 use Rattle.device_steps.specs.Feed.{Delivery, feedOf}
-use Rattle.device_steps.specs.Records.{heardWith, completes, refuses}
+use Rattle.device_steps.specs.Records.{heardWith, completes, refuses, Brings}
 use Rattle.device.specs.declared.Fed.{Fed}
-use Rattle.device.specs.Post.{Ran, Feeds}
+use Rattle.device.specs.Post.{Ran, SameOutcome, Feeds}
 use Rattle.record_history.specs.History.{hearing}
-use Rattle.demands.specs.Line.{IsFirst, Brings, EachIn}
-
--- two outcomes of a feed that a caller cannot tell apart: all but the received bytes beyond the held ones
-pub record SameOutcome (after after′ : Lent) (r r′ : Fed) : Type 0 where
-  pub result : r ≡ r′
-  pub image : after .image ≡ after′ .image
-  pub held : take (r .state .held) (after .receive) ≡ take (r′ .state .held) (after′ .receive)
-  pub reply : after .reply ≡ after′ .reply
+use Rattle.demands.specs.Line.{EachIn}
 
 -- bytes that are not answered
 abbrev pub Unanswered : Profile → Machine → List ℕ → Type 0

@@ -14,10 +14,11 @@ use Rattle.packet.specs.declared.Progress.the-variants.{Unfit, Complete}
 use Rattle.packet.specs.Packet.{progressOf}
 use Rattle.packet.specs.Frame.{Roomy}
 use Rattle.state.specs.State.{zeroState, freshState}
-use Rattle.recording.specs.Recording.{recordsOf}
-use Rattle.record_exchange.specs.Line.{Entry, exchange, restart}
+use Rattle.recording.specs.Recording.{recordsOf, written}
+use Rattle.record_exchange.specs.Line.{Entry, exchange, restart, taped}
 use Rattle.record_replay.specs.Replay.{replay}
 use Rattle.record_replay.specs.Blind.{bared}
+use Rattle.record_replay.specs.Post.{Played}
 use Rattle.device_calls.specs.declared.Refusal.the-variants.{Accepted}
 use Rattle.device_calls.specs.declared.Started.{Started}
 use Rattle.device_calls.specs.Calls.{Lent, feedRefusal, Starts}
@@ -88,6 +89,9 @@ pub record Demand3 : Type 0 where
   -- on running code: a device driven over a script, and the replay of the line's own recording
   pub driven : (p : Profile) (script : List ℕ) (before after : Lent) (r : Driven) → Drives p script before after r → r .refusal ≡ Accepted
       → after .image ≡ replay (areasOf p) (before .image) (left p (before .image) (callsOf (recordsOf script)))
+  pub played : (p : Profile) → Acceptable p → (image : List ℕ) (calls : List Call) (after : List ℕ) (r : ℕ)
+      → Played p (written (taped (left p image calls))) image after r
+      → (after ≡ reached p image calls .image) × (r ≡ length (written (taped (left p image calls))))
 
   -- the replay reads only the areas' addresses, requests and replies: units and kinds of areas are not seen
   pub blind : (areas : List Area) (image : List ℕ) (es : List Entry) → replay areas image es ≡ replay (bared areas) image es

@@ -1,20 +1,14 @@
 -- Words for the statements about a line: its bytes one by one, the replies that it brings, its record.
 use mathlib.Core.Bool.{true, false, cond}
 use mathlib.Core.List.{List, [], _∷_, _++_}
-use mathlib.Core.Logic.{_⊎_, _↔_}
 use mathlib.Core.Path.{_≡_}
 use Prim.Native.Nat.{ℕ}
-use Rattle.verdict.specs.Check.{Check, _gives_, NoneApplies}
 use Rattle.profile.specs.declared.Profile.{Profile}
 use Rattle.packet.specs.Packet.{good}
 use Rattle.record_exchange.specs.Line.{Entry, exchange, restart}
 use Rattle.device_steps.specs.Step.{Machine, stepOf}
-use Rattle.device_steps.specs.Records.{heardWith, completes, refuses}
+use Rattle.device_steps.specs.Records.{heardWith, Brings}
 use Rattle.record_history.specs.History.{Call, deliver, again, freshOf, hearing, machineAfter}
-
--- a byte brings a request: it completes one, or its length is refused early
-abbrev pub Brings : Machine → ℕ → Type 0
-Brings m b = (completes m b ≡ true) ⊎ (refuses m b ≡ true)
 
 -- a reply packet: one whole packet with right ETX and SUM; what answers a wake-up is none
 abbrev pub IsReply : List ℕ → Type 0
@@ -52,10 +46,3 @@ pub record IsRecord (p : Profile) (f : Machine → List Call → List Entry) : T
   pub empty : (m : Machine) → f m (deliver [] ∷ []) ≡ []
   pub joined : (m : Machine) (bs cs : List ℕ) → f m (deliver (bs ++ cs) ∷ []) ≡ f m (deliver bs ∷ []) ++ f (hearing p m bs) (deliver cs ∷ [])
   pub continued : (m : Machine) (first later : List Call) → f m (first ++ later) ≡ f m first ++ f (machineAfter p m first) later
-
--- TEMP
-pub record IsFirst {A : Type 0} (cs : List (Check A)) (a : A) : Type 0 where
-  pub before : List (Check A)
-  pub behind : List (Check A)
-  pub split : cs ≡ before ++ (true gives a) ∷ behind
-  pub quiet : NoneApplies before

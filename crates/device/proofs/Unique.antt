@@ -15,7 +15,7 @@ use Rattle.device_calls.specs.declared.Started.{Started}
 use Rattle.device_calls.specs.Calls.{Lent, isAccepted, Starts}
 use Rattle.device_steps.specs.Feed.{Delivery}
 use Rattle.device.specs.declared.Fed.{Fed}
-use Rattle.device.specs.Post.{FedBy}
+use Rattle.device.specs.Post.{FedBy, SameOutcome}
 
 -- starting and resetting
 module _ (p : Profile) (image : List ℕ) where
@@ -25,19 +25,12 @@ module _ (p : Profile) (image : List ℕ) where
   pub reset-once : (st : State) (r r′ : Started) → Starts p (length image) st r → Starts p (length image) st r′ → r ≡ r′
   reset-once st r r′ e f = one-answer (e .is) (f .is)
 
--- what two outcomes of a feed have in common: all but the received bytes beyond the held ones
-pub record Same (after after′ : Lent) (r r′ : Fed) : Type 0 where
-  pub result : r ≡ r′
-  pub image : after .image ≡ after′ .image
-  pub held : take (r .state .held) (after .receive) ≡ take (r′ .state .held) (after′ .receive)
-  pub reply : after .reply ≡ after′ .reply
-
 held-is : {r r′ : Fed} → r ≡ r′ → (rc : List ℕ) → take (r .state .held) rc ≡ take (r′ .state .held) rc
 held-is e rc = ap (λ (x : Fed). take (x .state .held) rc) e
 
 -- feeding, for the same state and buffers at entry
 module _ (d : Delivery) (input : List ℕ) (st : State) (before after after′ : Lent) (r r′ : Fed) where
-  pub fed-once : (refusal : Refusal) → FedBy refusal d input st before after r → FedBy refusal d input st before after′ r′ → Same after after′ r r′
+  pub fed-once : (refusal : Refusal) → FedBy refusal d input st before after r → FedBy refusal d input st before after′ r′ → SameOutcome after after′ r r′
   fed-once Accepted a b =
       record {
         result = a .is ∙ sym (b .is);

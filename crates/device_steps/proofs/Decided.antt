@@ -194,7 +194,7 @@ complete-is Unfit e = impossible (cc)
 complete-is Complete e = refl
 complete-is Excess e = impossible (cc)
 
-unfit-is : (x : Progress) → isUnfit x ≡ true → x ≡ Unfit
+pub unfit-is : (x : Progress) → isUnfit x ≡ true → x ≡ Unfit
 unfit-is Astray e = impossible (cc)
 unfit-is Partial e = impossible (cc)
 unfit-is Unfit e = refl

@@ -47,7 +47,7 @@ use Rattle.answer_transfer.specs.Transfers.{readCount, readPacket, writeDecided
 use Rattle.answer_waking.specs.Wake.{awake, woken, goes, wakeOf}
 use Rattle.device_steps.specs.Step.{Machine, earlyOf, answerOf, heard, stepIn, stepOf}
 use Rattle.device_steps.specs.Feed.{Delivery, feedOf}
-use Rattle.device_steps.specs.Records.{isUnfit, progressIn, heardWith, completes, refuses}
+use Rattle.device_steps.specs.Records.{isUnfit, progressIn, heardWith, completes, refuses, Brings}
 use Rattle.device_steps.proofs.Delivered.{by-reply, feed-none, FromByte, reply-is}
 
 -- a reply packet: a data packet of a permitted length
@@ -167,7 +167,7 @@ wake-reply p image st Acknowledged b = by-tests (eqb b 0x55) (eqb b 0x00)
     by-tests false true = inl refl
     by-tests false false = inl refl
 
-unasked-few : (a : Awaited) (r : List ℕ) → Unasked a r → length r ≤ 1
+pub unasked-few : (a : Awaited) (r : List ℕ) → Unasked a r → length r ≤ 1
 unasked-few (WakeUp u) r w = ⊎-elim (λ e. rw e (omega arith)) (λ x. ⊎-elim (λ e. rw e (omega arith)) (λ e. rw e (omega arith)) x) w
 unasked-few (Packet kind) r e = rw e (omega arith)
 
@@ -189,9 +189,22 @@ module _ (p : Profile) (m : Machine) (q : List ℕ) where
   heard-packet Complete h = answer-packet p (m .image) (m .state) (m .state .stage) q
   heard-packet Excess h = ⊎-elim (λ e. impossible (cc)) (λ e. impossible (cc)) h
 
--- the byte completes a request, or its length is refused
-abbrev pub Asked : Machine → ℕ → Type 0
-Asked m b = (completes m b ≡ true) ⊎ (refuses m b ≡ true)
+-- a byte brings a request, or completes none and is refused none
+module _ (m : Machine) (b : ℕ) where
+  pub unbrought : (Brings m b → ⊥) → (completes m b ≡ false) × (refuses m b ≡ false)
+  unbrought n = (by (completes m b) (λ e. n (inl e)), by (refuses m b) (λ e. n (inr e)))
+    where
+      by : (t : Bool) → (t ≡ true → ⊥) → t ≡ false
+      by true h = absurd (h refl)
+      by false h = refl
+
+  pub brings-or : Brings m b ⊎ (Brings m b → ⊥)
+  brings-or = by (completes m b) (refuses m b) refl refl
+    where
+      by : (s t : Bool) → completes m b ≡ s → refuses m b ≡ t → Brings m b ⊎ (Brings m b → ⊥)
+      by true t c f = inl (inl c)
+      by false true c f = inl (inr f)
+      by false false c f = inr (λ h. ⊎-elim (λ e. impossible (cc)) (λ e. impossible (cc)) h)
 
 module _ (p : Profile) (m : Machine) (b : ℕ) where
   abbrev q : List ℕ
@@ -213,21 +226,21 @@ module _ (p : Profile) (m : Machine) (b : ℕ) where
   quiet-step c f = unasked-in (awaitsOf (m .state .stage)) c f
 
   -- a complete request and an early refusal each get one
-  pub packet-step : Asked m b → IsPacket (stepOf p m b .reply)
+  pub packet-step : Brings m b → IsPacket (stepOf p m b .reply)
   unfolding stepOf completes refuses
   packet-step h = packet-in (awaitsOf (m .state .stage)) h
 
   by-tests : (s t : Bool) → completes m b ≡ s → refuses m b ≡ t
-      → Asked m b ⊎ (length (stepOf p m b .reply) ≤ 1)
+      → Brings m b ⊎ (length (stepOf p m b .reply) ≤ 1)
   by-tests true t c f = inl (inl c)
   by-tests false true c f = inl (inr f)
   by-tests false false c f = inr (unasked-few (awaitsOf (m .state .stage)) (stepOf p m b .reply) (quiet-step c f))
 
-  asked-or-few : Asked m b ⊎ (length (stepOf p m b .reply) ≤ 1)
+  asked-or-few : Brings m b ⊎ (length (stepOf p m b .reply) ≤ 1)
   asked-or-few = by-tests (completes m b) (refuses m b) refl refl
 
   -- so a reply packet answers a complete request or an early refusal
-  pub packet-exactly : IsPacket (stepOf p m b .reply) ↔ Asked m b
+  pub packet-exactly : IsPacket (stepOf p m b .reply) ↔ Brings m b
   packet-exactly = (λ k. ⊎-elim (λ h. h) (λ few. let least : 6 ≤ length (stepOf p m b .reply) = packet-least k in absurd (omega arith)) asked-or-few, packet-step)
 
   -- the room for a reply
@@ -253,6 +266,6 @@ feed-short p m (b ∷ bs) =
 
 -- so a packet that a delivery is answered by answers the byte behind which it stopped
 pub feed-asked : (p : Profile) (m : Machine) (bs : List ℕ) (f : FromByte p m bs) → IsPacket (feedOf p m bs .reply)
-    → Asked (feedOf p m (f .before) .machine) (f .byte)
+    → Brings (feedOf p m (f .before) .machine) (f .byte)
 feed-asked p m bs f k =
     packet-exactly p (feedOf p m (f .before) .machine) (f .byte) .0 (subst IsPacket (ap (λ (d : Delivery). d .reply) (reply-is p m bs f)) k)

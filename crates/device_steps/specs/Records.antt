@@ -1,6 +1,8 @@
 -- What a received byte brings to an end: a complete packet, or a length that is refused early.
 use mathlib.Core.Bool.{Bool, true, false}
 use mathlib.Core.List.{List, [], _∷_, _++_}
+use mathlib.Core.Logic.{_⊎_}
+use mathlib.Core.Path.{_≡_}
 use Prim.Native.Nat.{ℕ}
 use Rattle.packet.specs.declared.Progress.{Progress}
 use Rattle.packet.specs.declared.Progress.the-variants.{Astray, Partial, Unfit, Complete, Excess}
@@ -33,3 +35,7 @@ completes m b = isComplete (progressIn (awaitsOf (m .state .stage)) (heardWith m
 -- the byte is the second of a length that is refused early
 unfoldable pub refuses : Machine → ℕ → Bool
 refuses m b = isUnfit (progressIn (awaitsOf (m .state .stage)) (heardWith m b))
+
+-- the byte brings a request: it completes one, or its length is refused early
+abbrev pub Brings : Machine → ℕ → Type 0
+Brings m b = (completes m b ≡ true) ⊎ (refuses m b ≡ true)

@@ -57,6 +57,15 @@ partial-so true right short fits early exact r f l = refl
 partial-so false right true fits early exact r f l = rw (r refl) refl
 partial-so false right false fits early exact r f l = rw (r refl, f refl, l refl) refl
 
+unfit-tests : (empty right short fits early exact : Bool) → answerOf empty right short fits early exact ≡ Unfit → (short ≡ false) × (fits ≡ false)
+unfit-tests true right short fits early exact e = impossible (cc)
+unfit-tests false false short fits early exact e = impossible (cc)
+unfit-tests false true true fits early exact e = impossible (cc)
+unfit-tests false true false false early exact e = (refl, refl)
+unfit-tests false true false true true exact e = impossible (cc)
+unfit-tests false true false true false true e = impossible (cc)
+unfit-tests false true false true false false e = impossible (cc)
+
 -- one whole packet of a kind
 pub record Whole (kind : Kind) (q : List ℕ) : Type 0 where
   pub start : getD q 0 0 ≡ startOf kind
@@ -170,6 +179,24 @@ held-until kind q b more e =
       permits = λ h. rw (front-says q (b ∷ more) h) (w .permits);
       count = λ h. rw (front-says q (b ∷ more) h) (omega (arith, w .count, n));
     })
+
+-- a length is refused by the byte that brings it, and not later
+unfit-told : (kind : Kind) (q : List ℕ) → progressOf kind q ≡ Unfit → (3 ≤ length q) × (permitted kind (lengthOf q) ≡ false)
+unfolding progressOf measuredOf
+unfit-told kind q e =
+    let t = unfit-tests (empty kind q) (right kind q) (short kind q) (fits kind q) (early kind q) (exact kind q) e in
+    (ltb-false (length q) 3 (t .0), t .1)
+
+pub unfit-third : (kind : Kind) (q : List ℕ) (b : ℕ) → progressOf kind q ≡ Partial → progressOf kind (q ++ b ∷ []) ≡ Unfit → length (q ++ b ∷ []) ≡ 3
+unfit-third kind q b h e = by (ltb (length q) 3) refl
+  where
+    by : (t : Bool) → ltb (length q) 3 ≡ t → length (q ++ b ∷ []) ≡ 3
+    by true s = omega (arith, length-append q (b ∷ []), unfit-told kind (q ++ b ∷ []) e .0, ltb-true (length q) 3 s)
+    by false s =
+        let w : 3 ≤ length q = ltb-false (length q) 3 s in
+        let yes : permitted kind (lengthOf q) ≡ true = held kind q h .permits w in
+        let no : permitted kind (lengthOf q) ≡ false = ap (permitted kind) (front-says q (b ∷ []) w) ∙ unfit-told kind (q ++ b ∷ []) e .1 in
+        impossible (cc)
 
 -- for either kind
 pub held-few : (kind : Kind) (q : List ℕ) → progressOf kind q ≡ Partial → length q < 1030

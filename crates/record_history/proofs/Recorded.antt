@@ -1,8 +1,9 @@
--- What stands in the record: requests that were answered with a packet, with that packet; without an answer nothing, and nothing of waking up. Assumes nothing.
+-- What stands in the record: requests that were answered with a packet, with that packet, and resets; without an answer nothing, and nothing of
+-- waking up. Assumes nothing.
 use mathlib.Core.Bool.{Bool, true, false, _||_, cond}
-use mathlib.Core.List.{List, [], _∷_}
-use mathlib.Core.Logic.{inl, inr}
-use mathlib.Core.Path.{_≡_, refl, sym, ap, subst}
+use mathlib.Core.List.{List, [], _∷_, _++_, append-assoc, append-nil}
+use mathlib.Core.Logic.{inl, inr, ⊎-elim}
+use mathlib.Core.Path.{_≡_, refl, sym, ap, subst, _∙_}
 use Prim.Native.Nat.{ℕ, _≤_, _<_}
 use native.Mathlib.Omega.{arith}
 use lib.ListN.{length}
@@ -13,13 +14,13 @@ use Rattle.state.specs.declared.Pulse.{Pulse}
 use Rattle.state.specs.declared.Stage.{Stage}
 use Rattle.state.specs.declared.Stage.the-variants.{Setting}
 use Rattle.state.specs.Awaits.{awaitsOf}
-use Rattle.record_exchange.specs.Line.{exchange}
+use Rattle.record_exchange.specs.Line.{Entry, exchange, restart}
 use Rattle.device_steps.specs.Step.{Machine, stepOf}
 use Rattle.device_steps.specs.Feed.{Delivery, feedOf}
-use Rattle.device_steps.specs.Records.{isUnfit, progressIn, heardWith, completes, refuses}
+use Rattle.device_steps.specs.Records.{isUnfit, progressIn, heardWith, completes, refuses, Brings}
 use Rattle.device_steps.proofs.Delivered.{by-reply}
-use Rattle.device_steps.proofs.Replies.{IsPacket, packet-least, Asked, packet-step}
-use Rattle.record_history.specs.History.{entriesAt, heardRecord}
+use Rattle.device_steps.proofs.Replies.{IsPacket, packet-least, unbrought, packet-step}
+use Rattle.record_history.specs.History.{Call, deliver, again, freshOf, hearing, machineAfter, entriesAt, heardRecord, recordOf}
 
 -- an entry that a byte adds: all that is held and the byte, with the reply that the byte brings, which is a packet
 pub record Noted (p : Profile) (m : Machine) (b : ℕ) (q reply : List ℕ) : Type 0 where
@@ -29,7 +30,7 @@ pub record Noted (p : Profile) (m : Machine) (b : ℕ) (q reply : List ℕ) : Ty
   pub some : 0 < length reply
 
 module _ (p : Profile) (m : Machine) (b : ℕ) where
-  asked : (s t : Bool) → completes m b ≡ s → refuses m b ≡ t → (s || t) ≡ true → Asked m b
+  asked : (s t : Bool) → completes m b ≡ s → refuses m b ≡ t → (s || t) ≡ true → Brings m b
   asked true t c f h = inl c
   asked false true c f h = inr f
   asked false false c f h = impossible (cc)
@@ -74,3 +75,51 @@ unanswered-unrecorded p m (b ∷ bs) =
     by-reply p m b bs (λ (d : Delivery). length (d .reply) ≡ 0 → heardRecord p m (b ∷ bs) ≡ [])
     (λ quiet e. rw (unanswered-entry p m b quiet) (unanswered-unrecorded p (stepOf p m b .machine) bs e))
     (λ answered e. absurd (omega arith))
+
+-- an entry is left exactly by a byte that brings a request: what is held and the byte, with the reply
+module _ (p : Profile) (m : Machine) (b : ℕ) where
+  pub entry-asked : Brings m b → entriesAt p m b ≡ exchange (heardWith m b) (stepOf p m b .reply) ∷ []
+  unfolding entriesAt
+  entry-asked h = by (completes m b) (refuses m b) refl refl
+    where
+      by : (s t : Bool) → completes m b ≡ s → refuses m b ≡ t
+          → cond (s || t) (exchange (heardWith m b) (stepOf p m b .reply) ∷ []) [] ≡ exchange (heardWith m b) (stepOf p m b .reply) ∷ []
+      by true t c f = refl
+      by false true c f = refl
+      by false false c f = absurd (⊎-elim (λ e. impossible (cc)) (λ e. impossible (cc)) h)
+
+  pub entry-unasked : (Brings m b → ⊥) → entriesAt p m b ≡ []
+  unfolding entriesAt
+  entry-unasked n = let u = unbrought m b n in rw (u .0, u .1) refl
+
+-- each reset leaves its own
+pub reset-recorded : (p : Profile) (m : Machine) → recordOf p m (again ∷ []) ≡ restart ∷ []
+unfolding recordOf
+reset-recorded p m = refl
+
+-- one call after the other
+pub record-continued : (p : Profile) (m : Machine) (first later : List Call)
+    → recordOf p m (first ++ later) ≡ recordOf p m first ++ recordOf p (machineAfter p m first) later
+unfolding recordOf machineAfter
+record-continued p m [] later = refl
+record-continued p m (deliver bs ∷ first) later =
+    let s : Machine = hearing p m bs in
+    ap (λ (es : List Entry). heardRecord p m bs ++ es) (record-continued p s first later)
+    ∙ sym (append-assoc (heardRecord p m bs) (recordOf p s first) (recordOf p (machineAfter p s first) later))
+record-continued p m (again ∷ first) later = ap (λ (es : List Entry). restart ∷ es) (record-continued p (freshOf p (m .image)) first later)
+
+pub machine-continued : (p : Profile) (m : Machine) (first later : List Call)
+    → machineAfter p m (first ++ later) ≡ machineAfter p (machineAfter p m first) later
+unfolding machineAfter
+machine-continued p m [] later = refl
+machine-continued p m (deliver bs ∷ first) later = machine-continued p (hearing p m bs) first later
+machine-continued p m (again ∷ first) later = machine-continued p (freshOf p (m .image)) first later
+
+-- one delivery, and one byte
+pub delivery-record : (p : Profile) (m : Machine) (bs : List ℕ) → recordOf p m (deliver bs ∷ []) ≡ heardRecord p m bs
+unfolding recordOf
+delivery-record p m bs = append-nil (heardRecord p m bs)
+
+pub byte-record : (p : Profile) (m : Machine) (b : ℕ) → recordOf p m (deliver (b ∷ []) ∷ []) ≡ entriesAt p m b
+unfolding heardRecord
+byte-record p m b = delivery-record p m (b ∷ []) ∙ append-nil (entriesAt p m b)

@@ -2,12 +2,12 @@
 use mathlib.Core.Bool.{true, false}
 use mathlib.Core.List.{List, [], _∷_, _++_}
 use mathlib.Core.Option.{Option, none, some}
-use mathlib.Core.Path.{_≡_, refl, sym, ap}
+use mathlib.Core.Path.{_≡_, refl, sym, ap, _∙_}
 use Prim.Native.Nat.{ℕ}
 use native.Mathlib.Omega.{arith}
 use Rattle.verdict.specs.declared.Reason.{Reason}
 use Rattle.verdict.specs.declared.Verdict.the-variants.{Granted, Refused}
-use Rattle.verdict.specs.Check.{Check, _gives_, firstFault, NoneApplies, verdictOf}
+use Rattle.verdict.specs.Check.{Check, _gives_, firstFault, NoneApplies, IsFirst, verdictOf}
 
 module _ {A : Type 0} where
   -- a fault that is found is no "none"
@@ -28,15 +28,8 @@ module _ {A : Type 0} where
   grants ((true gives a) ∷ later) n = let z : _≡_ {A = ℕ} 0 1 = cc (n .0) in absurd (omega arith)
   grants ((false gives a) ∷ later) n = grants later (n .1)
 
-  -- where the first fault is found: behind checks of which none applies
-  pub record FoundAt (cs : List (Check A)) (a : A) : Type 0 where
-    pub before : List (Check A)
-    pub behind : List (Check A)
-    pub split : cs ≡ before ++ (true gives a) ∷ behind
-    pub quiet : NoneApplies before
-
   -- the answer is that of the first fault that applies
-  pub first : (cs : List (Check A)) (a : A) → firstFault cs ≡ some a → FoundAt cs a
+  pub first : (cs : List (Check A)) (a : A) → firstFault cs ≡ some a → IsFirst cs a
   unfolding firstFault NoneApplies
   first [] a e = absurd (found (sym e))
   first ((true gives b) ∷ later) a e =
@@ -45,6 +38,16 @@ module _ {A : Type 0} where
   first ((false gives b) ∷ later) a e =
       let f = first later a e in
       record { before = (false gives b) ∷ f .before; behind = f .behind; split = ap (λ (l : List (Check A)). (false gives b) ∷ l) (f .split); quiet = (refl, f .quiet) }
+
+  behind-quiet : (before : List (Check A)) (a : A) (behind : List (Check A)) → NoneApplies before → firstFault (before ++ (true gives a) ∷ behind) ≡ some a
+  unfolding firstFault NoneApplies
+  behind-quiet [] a behind n = refl
+  behind-quiet ((true gives b) ∷ before) a behind n = let z : _≡_ {A = ℕ} 0 1 = cc (n .0) in absurd (omega arith)
+  behind-quiet ((false gives b) ∷ before) a behind n = behind-quiet before a behind (n .1)
+
+  -- and the first that applies is the answer
+  pub first-found : (cs : List (Check A)) (a : A) → IsFirst cs a → firstFault cs ≡ some a
+  first-found cs a f = ap firstFault (f .split) ∙ behind-quiet (f .before) a (f .behind) (f .quiet)
 
   -- of two lists of checks, one after the other
   pub clear-left : (xs ys : List (Check A)) → firstFault (xs ++ ys) ≡ none → firstFault xs ≡ none

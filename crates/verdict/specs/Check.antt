@@ -1,6 +1,6 @@
 -- Checks in their stated order, of which the first that applies gives the answer.
 use mathlib.Core.Bool.{Bool, true, false}
-use mathlib.Core.List.{List, [], _∷_}
+use mathlib.Core.List.{List, [], _∷_, _++_}
 use mathlib.Core.Option.{Option, none, some}
 use mathlib.Core.Path.{_≡_}
 use Rattle.verdict.specs.declared.Reason.{Reason}
@@ -26,6 +26,13 @@ passes (some a) = false
 unfoldable pub NoneApplies : {A : Type 0} → List (Check A) → Type 0
 NoneApplies [] = Unit {0}
 NoneApplies ((fault gives a) ∷ later) = (fault ≡ false) × NoneApplies later
+
+-- the first fault of the list that applies: behind faults of which none does
+pub record IsFirst {A : Type 0} (checks : List (Check A)) (a : A) : Type 0 where
+  pub before : List (Check A)
+  pub behind : List (Check A)
+  pub split : checks ≡ before ++ (true gives a) ∷ behind
+  pub quiet : NoneApplies before
 
 -- a request is granted where there is no first fault
 abbrev pub verdictOf : Option Reason → Verdict
