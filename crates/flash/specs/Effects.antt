@@ -1,7 +1,7 @@
 -- The effects on the flash, by address: device and replay share them, and nothing else changes a byte.
 use mathlib.Core.Bool.{Bool, _&&_, cond}
 use mathlib.Core.List.{List, [], _∷_, _++_}
-use Prim.Native.Nat.{ℕ, _+_, _-_}
+use Prim.Native.Nat.{ℕ, _+_, _-_, min}
 use lib.ListN.{length, take, drop, getD, replicate}
 use lib.Dec.{leb, ltb}
 use Rattle.profile.specs.declared.Area.{Area}
@@ -53,3 +53,11 @@ fetchedAt (In spot) x n image = take n (drop (offsetIn spot x) image)
 
 unfoldable pub fetched : List Area → ℕ → ℕ → List ℕ → List ℕ
 fetched areas x n image = fetchedAt (placeOf areas x) x n image
+
+-- where in the image those bytes start: never beyond its end, and 0 where no area has the address
+unfoldable pub fetchStartAt : Place → ℕ → List ℕ → ℕ
+fetchStartAt Nowhere x image = 0
+fetchStartAt (In spot) x image = min (offsetIn spot x) (length image)
+
+unfoldable pub fetchStart : List Area → ℕ → List ℕ → ℕ
+fetchStart areas x image = fetchStartAt (placeOf areas x) x image

@@ -2,9 +2,10 @@
 ghost use mathlib.Core.Path.{_≡_};
 ghost use Prim.Native.Nat.{_+_, _-_, _≤_, min};
 ghost use lib.ListN.{length, replicate};
+ghost use Rattle.numbers.specs.Part.{PartAt};
 ghost use Rattle.profile.specs.Areas.{areasOf};
 ghost use Rattle.profile.specs.declared.Place.the-variants.{In};
-ghost use Rattle.flash.specs.Effects.{erased, stored, blanked, fetched, fetchedAt};
+ghost use Rattle.flash.specs.Effects.{erased, stored, blanked, fetched, fetchedAt, fetchStart, fetchStartAt};
 ghost use Rattle.flash.specs.Acts.{performed};
 ghost use Rattle.flash.specs.Meets.{bytesBelow, Meets};
 use numbers::lower;
@@ -121,7 +122,7 @@ pub fn store(image: &mut [u8], profile: Profile, address: u32, bytes: &[u8])
 // Up to `count` bytes from an address of a spot's area on, as far as the image goes.
 fn fetch_at(image: &[u8], spot: Spot, address: u32, count: usize) -> &[u8]
     requires { ⌜ (spot .area .sad ≤ address) × (address ≤ spot .area .ead) × (spot .base ≤ 34359738368) ⌝ }
-    ensures { λ r. ⌜ now r ≡ fetchedAt (In spot) address count (now (image .entry)) ⌝ }
+    ensures { λ r. ⌜ PartAt (image .entry) (fetchStartAt (In spot) address (now (image .entry))) (fetchedAt (In spot) address count (now (image .entry))) r ⌝ }
 {
     let area = spot.area;
     let offset = (address - area.sad) as usize;
@@ -149,7 +150,7 @@ pub fn perform(image: &mut [u8], profile: Profile, act: Act, bytes: &[u8])
 
 // Up to `count` bytes from an address on, as far as the image goes: a part of it.
 pub fn fetch(image: &[u8], profile: Profile, address: u32, count: usize) -> &[u8]
-    ensures { λ r. ⌜ now r ≡ fetched (areasOf profile) address count (now (image .entry)) ⌝ }
+    ensures { λ r. ⌜ PartAt (image .entry) (fetchStart (areasOf profile) address (now (image .entry))) (fetched (areasOf profile) address count (now (image .entry))) r ⌝ }
 {
     let place = profile::locate(profile, address);
     match place {

@@ -2,14 +2,14 @@
 use mathlib.Core.Bool.{Bool, true, false, cond}
 use mathlib.Core.List.{List, [], _∷_}
 use mathlib.Core.Path.{_≡_, refl, sym, ap, _∙_}
-use Prim.Native.Nat.{ℕ, zero, suc, _-_}
+use Prim.Native.Nat.{ℕ}
 use native.Mathlib.Omega.{arith}
 use lib.ListN.{length, take, drop}
 use lib.Dec.{leb, eqb}
 use borrow.Author.Tests.{eqb-true, leb-true, leb-false}
 use Rattle.verdict.proofs.OneAnswer.{one-answer}
-use Rattle.packet.specs.Packet.{good, payloadOf}
-use Rattle.packet.proofs.Contents.{payload-short, payload-none, payload-part}
+use Rattle.packet.specs.Packet.{good, payloadOf, payloadAt}
+use Rattle.packet.proofs.Contents.{payload-short, payload-none, payload-at-part, payload-there}
 use Rattle.device_calls.specs.declared.Refusal.{Refusal}
 use Rattle.device_calls.specs.declared.Refusal.the-variants.{Accepted, By}
 use Rattle.device_calls.specs.Calls.{isAccepted}
@@ -72,12 +72,6 @@ pub handed-once : (receive : List ℕ) (n r r′ from from′ got got′ : ℕ) 
 handed-once receive n r r′ from from′ got got′ a b =
     (one-answer (a .answer) (b .answer), (one-answer (a .start) (b .start), one-answer (a .count) (b .count)))
 
--- as many as a part has, from where it begins
-take-own : (m : ℕ) (l : List ℕ) → take (length (take m l)) l ≡ take m l
-take-own zero l = refl
-take-own (suc m) [] = refl
-take-own (suc m) (x ∷ l) = ap (λ (k : List ℕ). x ∷ k) (take-own m l)
-
 -- the answers 0 and 1
 abbrev answerOf : Bool → ℕ
 answerOf t = cond t 0 1
@@ -115,12 +109,8 @@ module _ (receive : List ℕ) (n r from got : ℕ) (a : Handed receive n r from 
       by false t g e = absurd (answers-0 (payloadOf receive n) (payload-short receive n (leb-false n (length receive) t)) one)
       by true t false e = absurd (answers-0 (payloadOf receive n) (payload-none receive n (leb-true n (length receive) t) e) one)
       by true t true e =
-          let part : take (n - 2 - 3) (drop 3 receive) ≡ payloadOf receive n = payload-part receive n (leb-true n (length receive) t) e in
-          let many : got ≡ length (take (n - 2 - 3) (drop 3 receive)) = a .count ∙ ap length (sym part) in
-          ap (λ (k : ℕ). take k (drop from receive)) many
-          ∙ ap (λ (k : ℕ). take (length (take (n - 2 - 3) (drop 3 receive))) (drop k receive)) three
-          ∙ take-own (n - 2 - 3) (drop 3 receive)
-          ∙ part
+          let at : from ≡ payloadAt receive n = three ∙ sym (payload-at-part receive n (leb-true n (length receive) t) e) in
+          rw (a .count, at) (sym (payload-there receive n))
 
   -- the answer 0: there is none
   pub handed-none : r ≡ 0 → (payloadOf receive n ≡ []) × ((from ≡ 0) × (got ≡ 0))

@@ -1,13 +1,15 @@
--- The payload as a part of the receive buffer. Assumes nothing.
-use mathlib.Core.Bool.{true, false}
+-- The payload as a part of the receive buffer, and where it stands there. Assumes nothing.
+use mathlib.Core.Bool.{Bool, true, false}
 use mathlib.Core.List.{List, [], _∷_}
 use mathlib.Core.Path.{_≡_, refl, sym, _∙_}
 use Prim.Native.Nat.{ℕ, zero, suc, _+_, _-_, _<_, _≤_}
 use native.Mathlib.Omega.{arith}
 use lib.ListN.{length, take, drop}
 use lib.Seq.{take-take, length-take-le}
-use borrow.Author.Tests.{le-leb, lt-leb}
-use Rattle.packet.specs.Packet.{lengthOf, good, payloadOf}
+use lib.Dec.{leb}
+use borrow.Author.Tests.{le-leb, lt-leb, leb-true, leb-false}
+use Rattle.numbers.proofs.Part.{part-there}
+use Rattle.packet.specs.Packet.{lengthOf, good, payloadOf, payloadAt}
 use Rattle.packet.proofs.Laws.{permitted-least}
 use Rattle.packet.proofs.Gathering.{good-is}
 
@@ -28,6 +30,14 @@ module _ (receive : List ℕ) (n : ℕ) where
   unfolding payloadOf
   payload-none h g = simp (le-leb _ _ h, g)
 
+  pub payload-at-short : length receive < n → payloadAt receive n ≡ 0
+  unfolding payloadAt
+  payload-at-short h = simp (lt-leb _ _ h)
+
+  pub payload-at-none : n ≤ length receive → good (take n receive) ≡ false → payloadAt receive n ≡ 0
+  unfolding payloadAt
+  payload-at-none h g = simp (le-leb _ _ h, g)
+
   module _ (h : n ≤ length receive) (g : good (take n receive) ≡ true) where
     counted : n ≡ lengthOf (take n receive) + 5
     counted = sym (length-take-le n receive h) ∙ good-is (take n receive) g .is .count
@@ -43,3 +53,19 @@ module _ (receive : List ℕ) (n : ℕ) where
     payload-part =
         let k : n - 2 - 3 ≡ lengthOf (take n receive) = omega (arith, counted) in
         simp (le-leb _ _ h, g, k) (sym (part-of-front 3 (lengthOf (take n receive)) n receive (omega (arith, counted))))
+
+    pub payload-at-part : payloadAt receive n ≡ 3
+    unfolding payloadAt
+    payload-at-part = simp (le-leb _ _ h, g)
+
+  -- the payload's bytes are the buffer's own from there on
+  pub payload-there : payloadOf receive n ≡ take (length (payloadOf receive n)) (drop (payloadAt receive n) receive)
+  payload-there = by (leb n (length receive)) refl (good (take n receive)) refl
+    where
+      by : (t : Bool) → leb n (length receive) ≡ t → (g : Bool) → good (take n receive) ≡ g
+          → payloadOf receive n ≡ take (length (payloadOf receive n)) (drop (payloadAt receive n) receive)
+      by false t g e = part-there 0 (payloadAt receive n) receive (payloadOf receive n) (payload-short (leb-false n (length receive) t))
+      by true t false e = part-there 0 (payloadAt receive n) receive (payloadOf receive n) (payload-none (leb-true n (length receive) t) e)
+      by true t true e =
+          let h : n ≤ length receive = leb-true n (length receive) t in
+          rw (payload-at-part h e) (part-there (n - 2 - 3) 3 receive (payloadOf receive n) (payload-part h e))

@@ -85,9 +85,16 @@ good q = (isComplete (progressOf Command q) || isComplete (progressOf Data q)) &
 abbrev pub contentsOf : List ℕ → List ℕ
 contentsOf q = field (lengthOf q) 3 q
 
--- the payload of the first n bytes of a receive buffer
+-- whether the first n bytes of a receive buffer are there and are one good packet
+abbrev pub goodFront : List ℕ → ℕ → Bool
+goodFront receive n = leb n (length receive) && good (take n receive)
+
+-- the payload of the first n bytes of a receive buffer, and where in the buffer it starts
 unfoldable pub payloadOf : List ℕ → ℕ → List ℕ
-payloadOf receive n = cond (leb n (length receive) && good (take n receive)) (contentsOf (take n receive)) []
+payloadOf receive n = cond (goodFront receive n) (contentsOf (take n receive)) []
+
+unfoldable pub payloadAt : List ℕ → ℕ → ℕ
+payloadAt receive n = cond (goodFront receive n) 3 0
 
 -- what bytes lack to a total that 256 divides
 unfoldable pub lack : List ℕ → ℕ

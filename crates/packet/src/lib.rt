@@ -3,8 +3,9 @@ mod framing;
 
 ghost use mathlib.Core.Path.{_≡_};
 ghost use Prim.Native.Nat.{_%_};
+ghost use Rattle.numbers.specs.Part.{PartAt};
 ghost use Rattle.verdict.specs.Check.{firstFault, verdictOf};
-ghost use Rattle.packet.specs.Packet.{startOf, sumOf, permitted, measuredOf, progressOf, endingChecks, isPartial, isComplete, endsWell, good, payloadOf};
+ghost use Rattle.packet.specs.Packet.{startOf, sumOf, permitted, measuredOf, progressOf, endingChecks, isPartial, isComplete, endsWell, good, payloadOf, payloadAt};
 pub use framing::put_frame;
 use numbers::Number;
 use verdict::Reason;
@@ -177,7 +178,7 @@ fn ends_well(packet: &[u8]) -> bool
 
 // COM or RES and what follows before SUM, of the packet that the first `count` bytes are; empty where they are no such packet.
 pub fn payload(receive: &[u8], count: usize) -> &[u8]
-    ensures { λ r. ⌜ now r ≡ payloadOf (now (receive .entry)) count ⌝ }
+    ensures { λ r. ⌜ PartAt (receive .entry) (payloadAt (now (receive .entry)) count) (payloadOf (now (receive .entry)) count) r ⌝ }
 {
     if receive.len() < count {
         return &receive[0..0];

@@ -1,16 +1,17 @@
--- The numbers of commands, the bytes between COM and SUM, and a number that is there. Assumes nothing.
-use mathlib.Core.List.{List, []}
+-- The numbers of commands, the bytes between COM and SUM and where they stand, and a number that is there. Assumes nothing.
 use mathlib.Core.Bool.{Bool, true, false, cond}
+use mathlib.Core.List.{List, []}
 use mathlib.Core.Path.{_≡_, refl, sym, ap, _∙_}
 use Prim.Native.Nat.{ℕ, _+_, _-_, _≤_, _<_}
 use native.Mathlib.Omega.{arith}
 use lib.ListN.{length, take, drop}
-use lib.Dec.{eqb}
-use borrow.Author.Tests.{ne-eqb, eqb-true, le-leb}
+use lib.Dec.{ltb, eqb}
+use borrow.Author.Tests.{ne-eqb, eqb-true, le-leb, lt-ltb, le-ltb, ltb-true, ltb-false}
 use Rattle.numbers.specs.Bytes.{number, field, numberAt}
+use Rattle.numbers.proofs.Part.{part-there}
 use Rattle.packet_fields.specs.declared.Com.{Com}
 use Rattle.packet_fields.specs.declared.Com.the-variants.{Inquiry, Erase, Write, Read, Authenticate, Baud, Signature, Area, Unknown}
-use Rattle.packet_fields.specs.Fields.{comNumber, comOf, infoOf, valueOf}
+use Rattle.packet_fields.specs.Fields.{comNumber, comOf, infoCount, infoOf, infoAt, valueOf}
 
 -- a number that is none of the eight
 pub com-unknown : (n : ℕ)
@@ -65,6 +66,23 @@ info-none q h = let e : 0 ≡ length q - 6 = omega arith in ap (λ (k : ℕ). ta
 
 pub info-part : (q : List ℕ) → take (length q - 2 - 4) (drop 4 q) ≡ infoOf q
 info-part q = let e : length q - 2 - 4 ≡ length q - 6 = omega arith in ap (λ (k : ℕ). take k (drop 4 q)) e
+
+-- where the bytes between COM and SUM start
+pub info-at-none : (q : List ℕ) → length q < 6 → infoAt q ≡ 0
+unfolding infoAt
+info-at-none q h = rw (lt-ltb (length q) 6 h) refl
+
+pub info-at-part : (q : List ℕ) → 6 ≤ length q → infoAt q ≡ 4
+unfolding infoAt
+info-at-part q h = rw (le-ltb (length q) 6 h) refl
+
+-- they are the packet's own bytes from there on
+pub info-there : (q : List ℕ) → infoOf q ≡ take (length (infoOf q)) (drop (infoAt q) q)
+info-there q = by (ltb (length q) 6) refl
+  where
+    by : (t : Bool) → ltb (length q) 6 ≡ t → infoOf q ≡ take (length (infoOf q)) (drop (infoAt q) q)
+    by true t = part-there 0 (infoAt q) q (infoOf q) (info-none q (ltb-true (length q) 6 t))
+    by false t = rw (info-at-part q (ltb-false (length q) 6 t)) (part-there (infoCount q) 4 q (infoOf q) refl)
 
 -- a number that is there
 pub value-read : (w at : ℕ) (bs : List ℕ) → at + w ≤ length bs → valueOf (numberAt w bs at) ≡ number (field w at bs)

@@ -3,7 +3,7 @@ use mathlib.Core.Bool.{cond}
 use mathlib.Core.List.{List, [], _∷_}
 use Prim.Native.Nat.{ℕ, zero, suc, _+_, _-_}
 use lib.ListN.{length, take, drop, getD}
-use lib.Dec.{eqb}
+use lib.Dec.{ltb, eqb}
 use Rattle.numbers.specs.declared.Number.{Number}
 use Rattle.numbers.specs.declared.Number.the-variants.{Is, CutShort}
 use Rattle.numbers.specs.Bytes.{numberAt}
@@ -44,6 +44,10 @@ infoCount q = length q - 6
 
 abbrev pub infoOf : List ℕ → List ℕ
 infoOf q = take (infoCount q) (drop 4 q)
+
+-- where those bytes start; fewer bytes than a packet has give none, at the start
+unfoldable pub infoAt : List ℕ → ℕ
+infoAt q = cond (ltb (length q) 6) 0 4
 
 -- the number in the four bytes from a place on; a command of the right length has them
 abbrev pub valueOf : Number → ℕ

@@ -1,7 +1,8 @@
 // What stands in a packet: COM or RES, the command of a number, the information, and the numbers in it.
 ghost use mathlib.Core.Path.{_≡_};
 ghost use lib.ListN.{getD};
-ghost use Rattle.packet_fields.specs.Fields.{comOf, infoCount, infoOf, fourAt, infoLength};
+ghost use Rattle.numbers.specs.Part.{PartAt};
+ghost use Rattle.packet_fields.specs.Fields.{comOf, infoCount, infoOf, infoAt, fourAt, infoLength};
 use numbers::Number;
 
 // The commands.
@@ -63,7 +64,7 @@ pub fn byte_at(packet: &[u8], at: usize) -> u8
 
 // The bytes between COM or RES and SUM.
 pub fn info(packet: &[u8]) -> &[u8]
-    ensures { λ r. ⌜ now r ≡ infoOf (now (packet .entry)) ⌝ }
+    ensures { λ r. ⌜ PartAt (packet .entry) (infoAt (now (packet .entry))) (infoOf (now (packet .entry))) r ⌝ }
 {
     if packet.len() < 6 {
         return &packet[0..0];

@@ -9,14 +9,14 @@ returns : tie.Need-returns
 returns c =
     let a = c .before .before .before .before .before .before .before .before .before .before .before .args in
     answers-as (cc
-    (c .before .before .before .fresh .ensures, erases-all (a .profile) (a .state) (a .packet .now) _ _ (c .before .before .before .before .before .before .before .info .ensures) (c .before .before .before .before .before .before .is-total-erase .ensures) (c .before .before .before .before .before .if1 .taken)))
+    (c .before .before .before .fresh .ensures, erases-all (a .profile) (a .state) (a .packet .now) _ _ (c .before .before .before .before .before .before .before .info .ensures .bytes) (c .before .before .before .before .before .before .is-total-erase .ensures) (c .before .before .before .before .before .if1 .taken)))
     (c .before .before .accept .ensures)
 
 returns-2 : tie.Need-returns-2
 returns-2 c =
     let a = c .before .before .before .before .before .before .before .before .before .before .before .args in
     answers-as (cc
-    (c .before .before .before .in-stage .ensures, lets-in (a .profile) (a .state) (a .packet .now) _ _ (c .before .before .before .before .before .before .before .info .ensures) (c .before .before .before .before .before .before .is-total-erase .ensures) (c .before .before .before .before .before .if1 .left)))
+    (c .before .before .before .in-stage .ensures, lets-in (a .profile) (a .state) (a .packet .now) _ _ (c .before .before .before .before .before .before .before .info .ensures .bytes) (c .before .before .before .before .before .before .is-total-erase .ensures) (c .before .before .before .before .before .if1 .left)))
     (c .before .before .accept2 .ensures)
 
 pub grant-authenticate-spec : {M : Type 1} → statement M

@@ -10,7 +10,7 @@ send-requires : tie.Need-send-requires
 send-requires c κs =
     let a = c .before .before .before .before .before .before .before .before .args in (
       c .before .before .before .before .before .before .before .before .pre .1,
-      packet-fits (a .profile) (a .image .now) (a .range) (c .before .before .before .before .fetch .ensures) (c .before .before .before .before .before .packet-size .ensures .1),
+      packet-fits (a .profile) (a .image .now) (a .range) (c .before .before .before .before .fetch .ensures .bytes) (c .before .before .before .before .before .packet-size .ensures .1),
     )
 
 returns : tie.Need-returns
@@ -18,7 +18,7 @@ returns c =
     let a = c .before .before .before .before .before .before .before .before .before .before .before .args in
     packet-read (a .profile) (a .image .now) (a .state) (a .range)
     (c .before .before .before .before .before .before .before .before .packet-size .ensures .0)
-    (c .before .before .before .before .before .before .before .fetch .ensures)
+    (c .before .before .before .before .before .before .before .fetch .ensures .bytes)
     (after-all Reading (a .range) _ (c .before .before .before .before .before .if1 .taken))
     (c .before .before .before .in-stage .ensures)
     (c .before .before .send .ensures)
@@ -27,7 +27,7 @@ send-requires-2 : tie.Need-send-requires-2
 send-requires-2 c κs =
     let a = c .before .before .before .before .before .before .before .before .before .args in (
       c .before .before .before .before .before .before .before .before .before .pre .1,
-      packet-fits (a .profile) (a .image .now) (a .range) (c .before .before .before .before .before .fetch .ensures) (c .before .before .before .before .before .before .packet-size .ensures .1),
+      packet-fits (a .profile) (a .image .now) (a .range) (c .before .before .before .before .before .fetch .ensures .bytes) (c .before .before .before .before .before .before .packet-size .ensures .1),
     )
 
 returns-2 : tie.Need-returns-2
@@ -35,7 +35,7 @@ returns-2 c =
     let a = c .before .before .before .before .before .before .before .before .before .before .before .before .args in
     packet-read (a .profile) (a .image .now) (a .state) (a .range)
     (c .before .before .before .before .before .before .before .before .before .packet-size .ensures .0)
-    (c .before .before .before .before .before .before .before .before .fetch .ensures)
+    (c .before .before .before .before .before .before .before .before .fetch .ensures .bytes)
     (after-some Reading (a .range) _ (c .before .before .before .before .before .before .if1 .left) (c .before .before .before .before .before .rest .ensures))
     (c .before .before .before .in-stage2 .ensures)
     (c .before .before .send2 .ensures)

@@ -42,7 +42,7 @@ returns-5 c =
     let a = c .before .before .before .before .before .before .before .args in
     own-told (a .profile) (a .state) (a .packet .now) (c .before .before .before .enum-told5 .given .1)
     (c .check-id .ensures
-    ∙ ap (λ (code : List ℕ). verdictOf (firstFault (idChecks (a .state .id) code))) (c .before .info .ensures))
+    ∙ ap (λ (code : List ℕ). verdictOf (firstFault (idChecks (a .state .id) code))) (c .before .info .ensures .bytes))
 
 returns-6 : tie.Need-returns-6
 unfolding ownChecks

@@ -15,14 +15,14 @@ returns-3 : tie.Need-returns-3
 returns-3 c =
     let a = c .before .before .before .before .before .before .before .before .args in
     blank-target (areasOf (a .profile)) (a .image .now) (a .next) (a .count) _ (c .before .before .before .before .before .before .unit-at .ensures)
-    (c .before .before .before .before .if2 .left) _ (c .before .before .before .fetch .ensures) _ (c .before .before .first-dirty .ensures)
+    (c .before .before .before .before .if2 .left) _ (c .before .before .before .fetch .ensures .bytes) _ (c .before .before .first-dirty .ensures)
     (c .enum-told .given .1)
 
 returns-4 : tie.Need-returns-4
 returns-4 c =
     let a = c .before .before .before .before .before .before .before .before .args in
     dirty-target (areasOf (a .profile)) (a .image .now) (a .next) (a .count) _ (c .before .before .before .before .before .before .unit-at .ensures)
-    (c .before .before .before .before .if2 .left) _ (c .before .before .before .fetch .ensures) _ (c .before .before .first-dirty .ensures) _
+    (c .before .before .before .before .if2 .left) _ (c .before .before .before .fetch .ensures .bytes) _ (c .before .before .first-dirty .ensures) _
     (c .enum-told2 .given .1)
 
 pub check-units-spec : {M : Type 1} → statement M

@@ -6,7 +6,7 @@ use Rattle.record_exchange.proofs.command_told.Tie as tie
 
 returns : tie.Need-returns
 unfolding commandTold
-returns c = rw (c .before .before .before .enum-told3 .given .1, ← c .before .before .info .ensures, ← c .before .is-erase-code .ensures, c .if1 .taken)
+returns c = rw (c .before .before .before .enum-told3 .given .1, ← c .before .before .info .ensures .bytes, ← c .before .is-erase-code .ensures, c .if1 .taken)
 
 returns-2 : tie.Need-returns-2
 unfolding commandTold
@@ -18,7 +18,7 @@ returns-3 c = rw (c .before .enum-told2 .given .1, c .four-at3 .ensures)
 
 returns-4 : tie.Need-returns-4
 unfolding commandTold
-returns-4 c = rw (c .before .before .before .before .enum-told3 .given .1, ← c .before .before .before .info .ensures, ← c .before .before .is-erase-code .ensures, c .before .if1 .left) (c .idle .ensures)
+returns-4 c = rw (c .before .before .before .before .enum-told3 .given .1, ← c .before .before .before .info .ensures .bytes, ← c .before .before .is-erase-code .ensures, c .before .if1 .left) (c .idle .ensures)
 
 returns-5 : tie.Need-returns-5
 unfolding commandTold

@@ -6,7 +6,7 @@ use Rattle.record_replay.proofs.replay_exchange.Tie as tie
 
 returns : tie.Need-returns
 unfolding entryReplay
-returns c = rw (← c .before .before .before .before .before .read-exchange .ensures, ← c .before .before .before .info .ensures, c .before .before .perform .ensures)
+returns c = rw (← c .before .before .before .before .before .read-exchange .ensures, ← c .before .before .before .info .ensures .bytes, c .before .before .perform .ensures)
 
 pub replay-exchange-spec : {M : Type 1} → statement M
 replay-exchange-spec =

@@ -46,7 +46,7 @@ add-requires c κs =
     let perform = c .before .before .before .before .before .before .perform in
     turned-holds (turned-on (loop .inv .0)
     (c .before .before .before .before .before .before .before .before .before .before .before .before .before .before .before .before .before .before .before .before .loop-test .taken)
-    (stood-done (loop .image) (loop .now-state .held + 1) (step .ensures) (c .before .before .before .before .before .before .before .info .ensures) (perform .ensures))
+    (stood-done (loop .image) (loop .now-state .held + 1) (step .ensures) (c .before .before .before .before .before .before .before .info .ensures .bytes) (perform .ensures))
     (c .before .before .if1 .left) (perform .kept .0) (step .kept .1 .1 .1 .0) (step .kept .1 .1 .1 .1 .0))
 
 add-with-held : tie.Need-add-with-held Inv-loop μ-loop
@@ -56,7 +56,7 @@ add-with-held c =
     let perform = c .before .before .before .before .before .before .before .before .before .perform in
     let t = (turned-on (loop .inv .0)
     (c .before .before .before .before .before .before .before .before .before .before .before .before .before .before .before .before .before .before .before .before .before .before .before .loop-test .taken)
-    (stood-done (loop .image) (loop .now-state .held + 1) (step .ensures) (c .before .before .before .before .before .before .before .before .before .before .info .ensures) (perform .ensures))
+    (stood-done (loop .image) (loop .now-state .held + 1) (step .ensures) (c .before .before .before .before .before .before .before .before .before .before .info .ensures .bytes) (perform .ensures))
     (c .before .before .before .before .before .if1 .left) (perform .kept .0) (step .kept .1 .1 .1 .0) (step .kept .1 .1 .1 .1 .0)) in
     omega (
       arith,
@@ -72,7 +72,7 @@ add-i-2 c =
     let perform = c .before .before .before .before .before .before .before .before .before .before .perform in
     let t = turned-more (turned-on (loop .inv .0)
     (c .before .before .before .before .before .before .before .before .before .before .before .before .before .before .before .before .before .before .before .before .before .before .before .before .loop-test .taken)
-    (stood-done (loop .image) (loop .now-state .held + 1) (step .ensures) (c .before .before .before .before .before .before .before .before .before .before .before .info .ensures) (perform .ensures))
+    (stood-done (loop .image) (loop .now-state .held + 1) (step .ensures) (c .before .before .before .before .before .before .before .before .before .before .before .info .ensures .bytes) (perform .ensures))
     (c .before .before .before .before .before .before .if1 .left) (perform .kept .0) (step .kept .1 .1 .1 .0) (step .kept .1 .1 .1 .1 .0))
     (c .before .before .before .add .ensures) (c .with-held .ensures) in
     omega (
@@ -91,7 +91,7 @@ loop-again c =
     let perform = c .before .before .before .before .before .before .before .before .before .before .perform in
     let if1 = c .before .before .before .before .before .before .if1 in (
       turned-more
-          (turned-on (loop .inv .0) (c .before .before .before .before .before .before .before .before .before .before .before .before .before .before .before .before .before .before .before .before .before .before .before .before .loop-test .taken) (stood-done (loop .image) (loop .now-state .held + 1) (step .ensures) (c .before .before .before .before .before .before .before .before .before .before .before .info .ensures) (perform .ensures)) (if1 .left) (perform .kept .0) (step .kept .1 .1 .1 .0) (step .kept .1 .1 .1 .1 .0))
+          (turned-on (loop .inv .0) (c .before .before .before .before .before .before .before .before .before .before .before .before .before .before .before .before .before .before .before .before .before .before .before .before .loop-test .taken) (stood-done (loop .image) (loop .now-state .held + 1) (step .ensures) (c .before .before .before .before .before .before .before .before .before .before .before .info .ensures .bytes) (perform .ensures)) (if1 .left) (perform .kept .0) (step .kept .1 .1 .1 .0) (step .kept .1 .1 .1 .1 .0))
           (c .before .before .before .add .ensures) (c .with-held .ensures),
       if1 .left,
     )
@@ -128,7 +128,7 @@ returns-2 c =
     (c .before .before .before .before .before .before .before .before .before .before .before .before .before .before .before .before .before .before .loop-test .taken)
     (stood-done (loop .image) (loop .now-state .held + 1)
     (c .before .before .before .before .before .before .before .before .before .before .before .before .step .ensures)
-    (c .before .before .before .before .before .info .ensures) (c .before .before .before .before .perform .ensures)) (c .if1 .taken)
+    (c .before .before .before .before .before .info .ensures .bytes) (c .before .before .before .before .perform .ensures)) (c .if1 .taken)
 
 add-n : tie.Need-add-n Inv-loop μ-loop
 add-n c = omega (arith, few _ _ _ 0 (c .before .before .loop .inv .0 .ready))
