@@ -3,3 +3,4 @@ pub mod Laws
 pub mod RoundTrip
 pub mod Turns
 pub mod Same
+pub mod There

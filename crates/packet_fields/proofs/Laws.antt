@@ -1,13 +1,14 @@
--- A number of no command, the bytes between COM and SUM, and a number that is there. Assumes nothing.
+-- A number of no command, the bytes between COM and SUM, a COM and a number that are there. Assumes nothing.
 use mathlib.Core.List.{List, []}
 use mathlib.Core.Path.{_≡_, refl, ap}
 use Prim.Native.Nat.{ℕ, _+_, _-_, _≤_, _<_}
 use native.Mathlib.Omega.{arith}
-use lib.ListN.{length, take, drop}
+use lib.ListN.{length, take, drop, getD}
 use borrow.Author.Tests.{ne-eqb, le-leb}
 use Rattle.numbers.specs.Bytes.{number, field, numberAt}
+use Rattle.numbers.proofs.There.{entry-there, field-there}
 use Rattle.packet_fields.specs.declared.Com.the-variants.{Unknown}
-use Rattle.packet_fields.specs.Fields.{comOf, infoOf, valueOf}
+use Rattle.packet_fields.specs.Fields.{comOf, codeAt, infoCount, infoOf, valueOf}
 
 -- a number that is none of the eight
 pub com-unknown : (n : ℕ)
@@ -24,6 +25,14 @@ info-none q h = let e : 0 ≡ length q - 6 = omega arith in ap (λ (k : ℕ). ta
 
 pub info-part : (q : List ℕ) → take (length q - 2 - 4) (drop 4 q) ≡ infoOf q
 info-part q = let e : length q - 2 - 4 ≡ length q - 6 = omega arith in ap (λ (k : ℕ). take k (drop 4 q)) e
+
+-- a packet of at least six bytes has a COM or RES, and its information is not cut short
+module _ (q : List ℕ) (h : 6 ≤ length q) where
+  pub code-there : (d : ℕ) → getD q 3 d ≡ codeAt q
+  code-there d = entry-there q 3 d 0 (omega arith)
+
+  pub info-whole : length (infoOf q) ≡ infoCount q
+  info-whole = field-there (infoCount q) 4 q (omega arith)
 
 -- a number that is there
 pub value-read : (w at : ℕ) (bs : List ℕ) → at + w ≤ length bs → valueOf (numberAt w bs at) ≡ number (field w at bs)
