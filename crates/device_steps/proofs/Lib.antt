@@ -5,3 +5,4 @@ pub mod Kept
 pub mod Decided
 pub mod Examples
 pub mod Replies
+pub mod Defaults

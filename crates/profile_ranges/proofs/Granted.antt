@@ -130,6 +130,13 @@ module _ (areas : List Area) (w : Window) (purpose : Purpose) (s e : ℕ) where
       go (In spot) f h = record { spot = spot; inArea = granted-in spot f p; allowed = granted-allowed spot f p }
       go Nowhere f h = let z : _≡_ {A = ℕ} 0 1 = cc in absurd (omega arith)
 
+  -- every address of a granted range has a place
+  pub granted-placed : Permitted areas w purpose s e → (x : ℕ) → s ≤ x → x ≤ e → placeOf areas x ≡ Nowhere → ⊥
+  granted-placed p x from to =
+      let l : Lies areas w purpose s e = in-area p in
+      let i : inside (l .spot .area) x ≡ true = inside-within (l .spot .area) x (omega (arith, l .inArea .starts)) (omega (arith, l .inArea .ends)) in
+      area-has-place 0 areas s x (l .spot) (l .inArea .found) i
+
   -- so these are the granted ranges, no more and no fewer
   pub granted-exactly : Permitted areas w purpose s e ↔ Lies areas w purpose s e
   granted-exactly = (in-area, λ l. grants-in (l .spot) (l .inArea) (l .allowed))
