@@ -1,16 +1,14 @@
 -- The definitions are total, so they have an answer also for what never comes. None of these answers decides anything on an accepted call: where a machine
 -- fits, its profile is accepted, and its image has the profile's length, each byte, entry and unit that is looked at is there. Assumes nothing.
-use mathlib.Core.Bool.{Bool, true, false}
+use mathlib.Core.Bool.{true}
 use mathlib.Core.List.{List, [], _∷_, _++_}
 use mathlib.Core.Option.{none}
-use mathlib.Core.Path.{_≡_, refl, sym, ap, _∙_}
+use mathlib.Core.Path.{_≡_, sym, ap, _∙_}
 use Prim.Native.Nat.{ℕ, _+_, _-_, _≤_, _<_, min}
-use native.Mathlib.Nat.{zero-add}
 use native.Mathlib.Omega.{arith}
 use lib.ListN.{length, take, drop, getD, length-drop}
 use lib.Seq.{length-take-le, take-all}
-use lib.Dec.{ltb, eqb}
-use borrow.Author.Tests.{leb-false, ltb-false}
+use borrow.Author.Tests.{leb-false}
 use Rattle.numbers.proofs.There.{entry-there}
 use Rattle.verdict.specs.Check.{firstFault, NoneApplies}
 use Rattle.verdict.proofs.FirstFault.{clear}
@@ -20,22 +18,21 @@ use Rattle.profile.specs.declared.Area.{Area}
 use Rattle.profile.specs.declared.Profile.{Profile}
 use Rattle.profile.specs.declared.Spot.{Spot}
 use Rattle.profile.specs.declared.Place.the-variants.{In, Nowhere}
-use Rattle.profile.specs.Areas.{areasOf, noArea, sizeOf, tally, totalOf}
+use Rattle.profile.specs.Areas.{areasOf, noArea, totalOf}
 use Rattle.profile.specs.Places.{placeOf}
 use Rattle.profile.proofs.Table.{areas-there}
-use Rattle.profile_rules.specs.Rules.{Accepted, config, smallConfig}
+use Rattle.profile_rules.specs.Rules.{Accepted}
 use Rattle.profile_rules.proofs.Accepted.{sound}
 use Rattle.profile_ranges.specs.declared.Purpose.{Purpose}
 use Rattle.profile_ranges.specs.declared.Purpose.the-variants.{Erase as ToErase, Write as ToWrite, Read as ToRead}
 use Rattle.profile_ranges.proofs.Granted.{granted-placed}
 use Rattle.packet.specs.declared.Kind.{Kind}
-use Rattle.packet.specs.declared.Progress.{Progress}
-use Rattle.packet.specs.declared.Progress.the-variants.{Astray, Partial, Unfit, Complete, Excess}
+use Rattle.packet.specs.declared.Progress.the-variants.{Complete, Excess}
 use Rattle.packet.specs.Packet.{progressOf, isComplete, etxOf}
 use Rattle.packet.proofs.Laws.{impossible}
+use Rattle.packet.proofs.Gathering.{is-complete}
 use Rattle.packet.proofs.Partial.{is-partial}
 use Rattle.packet.proofs.There.{complete-least, etx-there, no-excess}
-use Rattle.packet_fields.specs.declared.Com.{Com}
 use Rattle.packet_fields.specs.declared.Com.the-variants.{Erase, Read, Baud, Area as AreaCommand, Unknown}
 use Rattle.packet_fields.specs.Fields.{comOf, codeAt, infoCount, infoOf, sadOf, eadOf, brtOf, areaNumberOf}
 use Rattle.packet_fields.proofs.Laws.{code-there, info-whole}
@@ -53,7 +50,7 @@ use Rattle.state.specs.State.{windowOf}
 use Rattle.state.specs.Awaits.{awaitsOf, heldFits}
 use Rattle.state.specs.Fits.{stageFits}
 use Rattle.check_command.specs.Commands.{areaNumberChecks, ownChecks, commandChecks}
-use Rattle.check_command.proofs.Granted.{own-clear, granted-form, granted-erase, granted-read}
+use Rattle.check_command.proofs.Granted.{granted-form, own-of, granted-erase, granted-read}
 use Rattle.check_transfer.specs.Transfer.{unitBefore}
 use Rattle.check_transfer.proofs.Boundary.{unit-there as unit-permitted}
 use Rattle.check_transfer.proofs.There.{part-whole}
@@ -67,6 +64,7 @@ use Rattle.device_steps.specs.Step.{Machine, machineOf}
 use Rattle.device_steps.specs.Feed.{feedOf}
 use Rattle.device_steps.specs.Records.{isUnfit, progressIn, heardWith, completes, refuses}
 use Rattle.device_steps.specs.Fits.{FitMachine}
+use Rattle.device_steps.proofs.Config.{config-there}
 use Rattle.device_steps.proofs.Going.{above, Going, going, spanned}
 use Rattle.device_steps.proofs.Kept.{feed-fits, feed-length, machine-fits}
 
@@ -108,13 +106,6 @@ there kind q c =
       stored = take-all (infoCount q) (infoOf q) (omega arith);
     }
 
-complete-is : (g : Progress) → isComplete g ≡ true → g ≡ Complete
-complete-is Astray e = impossible (cc)
-complete-is Partial e = impossible (cc)
-complete-is Unfit e = impossible (cc)
-complete-is Complete e = refl
-complete-is Excess e = impossible (cc)
-
 -- a byte that comes
 module _ (m : Machine) (b : ℕ) where
   abbrev q : List ℕ
@@ -126,7 +117,7 @@ module _ (m : Machine) (b : ℕ) where
     where
       by : (a : Awaited) → isComplete (progressIn a q) ≡ true → PacketThere q
       by (WakeUp u) e = impossible (cc)
-      by (Packet kind) e = there kind q (complete-is (progressOf kind q) e)
+      by (Packet kind) e = there kind q (is-complete (progressOf kind q) e)
 
   -- setting completes no packet and refuses no length, so the clauses that it has for them are never asked
   pub setting-completes-none : (u : Pulse) → m .state .stage ≡ Setting u → completes m b ≡ true → ⊥
@@ -152,18 +143,13 @@ never-excess p m b f = held-excess (awaitsOf (m .state .stage)) (m .held) b (f .
 
 -- a write or a read that is under way
 module _ (p : Profile) (accepted : Accepted p) (m : Machine) (fits : FitMachine p m) where
-  range-there : (purpose : Purpose) (turn : Range → Stage) (r : Range) → m .state .stage ≡ turn r
-      → (stageFits (areasOf p) (windowOf p (m .state)) (turn r) ≡ true → Going (areasOf p) (windowOf p (m .state)) purpose r)
-      → Going (areasOf p) (windowOf p (m .state)) purpose r
-  range-there purpose turn r e parts = parts (ap (stageFits (areasOf p) (windowOf p (m .state))) (sym e) ∙ fits .stage)
-
   writes : (r : Range) → m .state .stage ≡ Writing r → Going (areasOf p) (windowOf p (m .state)) ToWrite r
   unfolding stageFits
-  writes r e = range-there ToWrite Writing r e (going (areasOf p) (windowOf p (m .state)) ToWrite r)
+  writes r e = going (areasOf p) (windowOf p (m .state)) ToWrite r (ap (stageFits (areasOf p) (windowOf p (m .state))) (sym e) ∙ fits .stage)
 
   reads : (r : Range) → m .state .stage ≡ Reading r → Going (areasOf p) (windowOf p (m .state)) ToRead r
   unfolding stageFits
-  reads r e = range-there ToRead Reading r e (going (areasOf p) (windowOf p (m .state)) ToRead r)
+  reads r e = going (areasOf p) (windowOf p (m .state)) ToRead r (ap (stageFits (areasOf p) (windowOf p (m .state))) (sym e) ∙ fits .stage)
 
   -- every address that is left to write has a place, so no byte of a packet is dropped
   pub target-placed : (r : Range) → m .state .stage ≡ Writing r → (x : ℕ) → r .next ≤ x → x < r .next + r .left → placeOf (areasOf p) x ≡ Nowhere → ⊥
@@ -206,17 +192,14 @@ module _ (p : Profile) (st : State) (q : List ℕ) (granted : firstFault (comman
   pub unknown-not-granted : comOf (codeAt q) ≡ Unknown → ⊥
   unknown-not-granted = granted-form p st q granted .known
 
-  own-of : (cmd : Com) → comOf (codeAt q) ≡ cmd → firstFault (ownChecks p st cmd q) ≡ none
-  own-of cmd e = ap (λ (k : Com). firstFault (ownChecks p st k q)) (sym e) ∙ own-clear p st q granted
-
   -- every address that is erased has a place
   pub erase-placed : comOf (codeAt q) ≡ Erase → (x : ℕ) → sadOf q ≤ x → x ≤ eadOf q → placeOf (areasOf p) x ≡ Nowhere → ⊥
   erase-placed e = granted-placed (areasOf p) (windowOf p st) ToErase (sadOf q) (eadOf q) (granted-erase p st q granted e)
 
-  -- an area's number is one of the areas', and the table has its entry
+  -- an area's number is one of the areas', and the table, an array of eight entries, has its entry
   pub area-below : comOf (codeAt q) ≡ AreaCommand → areaNumberOf q < p .noa
   unfolding ownChecks areaNumberChecks NoneApplies
-  area-below e = leb-false (p .noa) (areaNumberOf q) (clear (areaNumberChecks (p .noa) q) (own-of AreaCommand e) .0)
+  area-below e = leb-false (p .noa) (areaNumberOf q) (clear (areaNumberChecks (p .noa) q) (own-of p st q granted AreaCommand e) .0)
 
   pub area-there : Accepted p → length (p .areas) ≡ 8 → comOf (codeAt q) ≡ AreaCommand → (d : Area)
       → getD (p .areas) (areaNumberOf q) d ≡ getD (p .areas) (areaNumberOf q) noArea
@@ -229,7 +212,7 @@ module _ (p : Profile) (st : State) (q : List ℕ) (granted : firstFault (comman
   pub rate-divides : Accepted p → comOf (codeAt q) ≡ Baud → Divides (p .sci) (brtOf q)
   unfolding ownChecks
   rate-divides accepted e =
-      let some : brtOf q ≡ 0 → ⊥ = granted-fits (p .sci) (p .rmb) (brtOf q) (own-of Baud e) .nonzero in
+      let some : brtOf q ≡ 0 → ⊥ = granted-fits (p .sci) (p .rmb) (brtOf q) (own-of p st q granted Baud e) .nonzero in
       divides (p .sci) (brtOf q) (sound p accepted .has-clock) (omega arith)
 
 -- an accepted profile: the setting of a fresh device divides by no 0, and the areas are NOA of the table's eight entries
@@ -242,27 +225,6 @@ module _ (p : Profile) (accepted : Accepted p) where
       let most : p .noa ≤ 8 = sound p accepted .at-most-eight in
       let n : min (p .noa) 8 ≡ p .noa = omega arith in
       areas-there p eight ∙ ap (λ (k : ℕ). take k (p .areas)) n
-
--- the config area that is found has sixteen bytes before the areas' end
-record ConfigThere (base : ℕ) (areas : List Area) : Type 0 where
-  spot : Spot
-  found : configFrom base areas ≡ In spot
-  enough : spot .base + 16 ≤ base + totalOf areas
-
-config-there : (base : ℕ) (areas : List Area) → 1 ≤ tally config areas → tally smallConfig areas ≡ 0 → ConfigThere base areas
-unfolding tally config smallConfig configFrom
-config-there base [] some large = absurd (omega arith)
-config-there base (a ∷ more) some large = by (eqb (a .koa) 2) refl (ltb (sizeOf a) 16) refl (config-there (base + sizeOf a) more)
-  where
-    by : (t : Bool) → eqb (a .koa) 2 ≡ t → (s : Bool) → ltb (sizeOf a) 16 ≡ s
-        → (1 ≤ tally config more → tally smallConfig more ≡ 0 → ConfigThere (base + sizeOf a) more) → ConfigThere base (a ∷ more)
-    by true t true s later = let l = simp (t, s) at large in absurd (omega arith)
-    by true t false s later =
-        let size : 16 ≤ sizeOf a = ltb-false (sizeOf a) 16 s in
-        record { spot = record { area = a; base = base }; found = rw t refl; enough = omega arith }
-    by false t s u later =
-        let l = later (simp (t, zero-add) at some) (simp (t, zero-add) at large) in
-        record { spot = l .spot; found = rw t (l .found); enough = omega (arith, l .enough) }
 
 -- the ID is sixteen bytes of the image
 pub record IdThere (areas : List Area) (image : List ℕ) : Type 0 where

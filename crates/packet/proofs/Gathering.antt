@@ -192,7 +192,7 @@ pub record Good (q : List ℕ) : Type 0 where
   pub is : Whole kind q
   pub ends : endsWell q ≡ true
 
-is-complete : (p : Progress) → isComplete p ≡ true → p ≡ Complete
+pub is-complete : (p : Progress) → isComplete p ≡ true → p ≡ Complete
 is-complete Astray e = impossible (cc)
 is-complete Partial e = impossible (cc)
 is-complete Unfit e = impossible (cc)
