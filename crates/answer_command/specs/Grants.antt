@@ -41,7 +41,8 @@ shown res bytes st = record { act = Nothing; state = withHeld 0 st; reply = data
 unfoldable pub entered : Profile → State → List ℕ → Answer
 entered p st q = cond (totalErase (st .id) (infoOf q)) (told q Granted EraseAll (freshState p)) (told q Granted Nothing (moved Command st))
 
--- what each command does when it is granted
+-- what each command does when it is granted; an unknown one never is, and an area's entry is there: device_steps, proofs/Defaults,
+-- `unknown-not-granted` and `area-there`
 unfoldable pub grantOf : Profile → List ℕ → State → List ℕ → Com → Answer
 grantOf p image st q Inquiry = told q Granted Nothing (withHeld 0 st)
 grantOf p image st q Erase = told q Granted (EraseRange (sadOf q) (eadOf q)) (withHeld 0 st)

@@ -1,3 +1,4 @@
+pub mod Divisors
 pub mod Exact
 pub mod Laws
 pub mod Table23

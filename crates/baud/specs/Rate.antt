@@ -1,5 +1,5 @@
--- The line setting of a baud rate BRT under the clock SCI. All divisions round down; a division by 0, which no acceptable profile and
--- no granted rate brings, gives 0.
+-- The line setting of a baud rate BRT under the clock SCI. All divisions round down; a division by 0 gives 0, which never decides: proofs/Divisors,
+-- `divides`; device_steps, proofs/Defaults, `rate-divides` and `fresh-divides`.
 use mathlib.Core.Bool.{Bool, cond}
 use mathlib.Core.List.{List, [], _∷_}
 use mathlib.Core.Path.{_≡_}

@@ -82,7 +82,7 @@ module _ (p : Profile) (st : State) (q : List ℕ) (granted : firstFault (comman
   pub in-command : st .stage ≡ Command → codeAt q ≡ 0x30 → ⊥
   in-command e = eqb-false (codeAt q) 0x30 (ap (λ (s : Stage). stageWrong s (codeAt q)) (sym e) ∙ granted-form .staged)
 
-  own-of : (cmd : Com) → comOf (codeAt q) ≡ cmd → firstFault (ownChecks p st cmd q) ≡ none
+  pub own-of : (cmd : Com) → comOf (codeAt q) ≡ cmd → firstFault (ownChecks p st cmd q) ≡ none
   own-of cmd e = ap (λ (k : Com). firstFault (ownChecks p st k q)) (sym e) ∙ own-clear
 
   -- its range is permitted

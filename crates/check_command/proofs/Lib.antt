@@ -1,2 +1,3 @@
 pub mod CommandLaws
 pub mod Granted
+pub mod There

@@ -29,6 +29,12 @@ module _ (areas : List Area) (ascend : Above 0 areas) (w : Window) (s e n : ℕ)
       let last : placeOf areas (s + n - 1) ≡ In (lies .spot) = whole-area 0 0 areas s (lies .spot) ascend (i .found) (s + n - 1) (omega (arith, i .starts)) (omega (arith, i .ends)) in
       ap unitAt (last ∙ sym (i .found))
 
+  -- a write is permitted only where there is a unit: no remainder by 0 is taken, and the blank search takes no 0 for 1
+  pub unit-there : 1 ≤ unitBefore areas (s + n)
+  unit-there =
+      let some : unitAt (placeOf areas s) ≡ 0 → ⊥ = λ z. lies .allowed .nonzero (ap unitAt (sym (lies .inArea .found)) ∙ z) in
+      omega (arith, same-unit)
+
   aligned : s % unitAt (placeOf areas s) ≡ 0
   aligned = ap (λ (p : Place). s % unitAt p) (lies .inArea .found) ∙ lies .allowed .first
 

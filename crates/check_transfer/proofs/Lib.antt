@@ -1,3 +1,4 @@
 pub mod TransferLaws
 pub mod WriteGranted
 pub mod Boundary
+pub mod There

@@ -30,7 +30,8 @@ amountChecks left q =
     ∷ (ltb left (infoCount q) gives TooMuchData)
     ∷ []
 
--- WAU of the area that holds the last byte before an address
+-- WAU of the area that holds the last byte before an address; for a packet that is no longer than what is left it is not 0: device_steps,
+-- proofs/Defaults, `unit-there`
 abbrev pub unitBefore : List Area → ℕ → ℕ
 unitBefore areas behind = unitAt (placeOf areas (behind - 1))
 
@@ -51,7 +52,7 @@ targetChecks areas image r q =
 unfoldable pub writeChecks : List Area → List ℕ → Range → List ℕ → List (Check Reason)
 writeChecks areas image r q = endingChecks q ++ targetChecks areas image r q
 
--- only 81 00 02 15 00 E9 03 asks for the next packet
+-- only 81 00 02 15 00 E9 03 asks for the next packet; the 0 for no byte never decides: proofs/There, `next-there`
 unfoldable pub asksNext : List ℕ → Bool
 asksNext q = eqb (codeAt q) (comNumber Read) && (eqb (infoCount q) 1 && eqb (getD q 4 0) 0x00)
 

@@ -5,3 +5,5 @@ pub mod Kept
 pub mod Decided
 pub mod Examples
 pub mod Replies
+pub mod Config
+pub mod Defaults

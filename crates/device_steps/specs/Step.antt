@@ -51,7 +51,8 @@ abbrev pub holding : List ℕ → Machine → Step
 holding q m =
     record { machine = record { image = m .image; held = q; state = withHeld (length q) (m .state) }; reply = [] }
 
--- a refused length: its COM or RES, 00h where none has come yet, and the stage that it leads to; a transfer is over
+-- a refused length: its COM or RES, 00h where none has come yet, and the stage that it leads to; a transfer is over. The clause of setting never
+-- decides: proofs/Defaults, `setting-refuses-none`
 abbrev pub earlyOf : Stage → ℕ × Stage
 earlyOf (Setting u) = (0x00, Setting u)
 earlyOf Authentication = (0x00, Authentication)
@@ -64,7 +65,7 @@ abbrev pub refusedEarly : State → Answer
 refusedEarly st =
     record { act = Nothing; state = moved (earlyOf (st .stage) .1) st; reply = statusReply (earlyOf (st .stage) .0) (Refused LengthRefused) }
 
--- what answers a complete packet; setting awaits none, and its clause is never asked
+-- what answers a complete packet; setting awaits none, and its clause never decides: proofs/Defaults, `setting-completes-none`
 abbrev pub answerOf : Profile → List ℕ → State → Stage → List ℕ → Answer
 answerOf p image st (Setting u) q = answerCommand p image st q
 answerOf p image st Authentication q = answerCommand p image st q
@@ -72,7 +73,8 @@ answerOf p image st Command q = answerCommand p image st q
 answerOf p image st (Writing r) q = answerWrite p image st r q
 answerOf p image st (Reading r) q = answerNext p image st r q
 
--- what the held bytes and the new one, q, lead to; a byte that starts no packet is skipped
+-- what the held bytes and the new one, q, lead to; a byte that starts no packet is skipped. The clause of excess never decides: proofs/Defaults,
+-- `never-excess`
 unfoldable pub heard : Profile → Machine → List ℕ → Progress → Step
 heard p m q Astray = holding [] m
 heard p m q Partial = holding q m

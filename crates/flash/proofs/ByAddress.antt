@@ -8,12 +8,13 @@ use native.Mathlib.Nat.{min-le-left, lt-of-lt-of-le}
 use native.Mathlib.Omega.{arith}
 use lib.ListN.{length, take, drop, getD, length-append, length-take, length-drop, length-replicate, getD-replicate, List·getD-append}
 use lib.Seq.{length-take-le, getD-take, getD-drop}
+use Rattle.profile.proofs.Places.{found-inside, area-below-total}
 use Rattle.profile.proofs.Table.{inside-bounds}
 use Rattle.profile.specs.declared.Area.{Area}
 use Rattle.profile.specs.declared.Place.the-variants.{In, Nowhere}
 use Rattle.profile.specs.declared.Place.{Place}
 use Rattle.profile.specs.declared.Spot.{Spot}
-use Rattle.profile.specs.Areas.{sizeOf, inside}
+use Rattle.profile.specs.Areas.{sizeOf, totalOf, inside}
 use Rattle.profile.specs.Places.{placeFrom, placeOf, offsetIn}
 use Rattle.flash.specs.Effects.{Effect, along, changed, erasing, storing, erased, stored, blanked, fetchedAt, fetched}
 use Rattle.flash.proofs.Along.{length-along, getD-along, Only}
@@ -169,6 +170,12 @@ module _ (areas : List Area) (x n : ℕ) (image : List ℕ) (spot : Spot) (p : p
   fetched-length h =
       let j : n ≤ length (drop (offsetIn spot x) image) = rw length-drop (omega arith) in
       ap length fetched-is ∙ length-take-le n (drop (offsetIn spot x) image) j
+
+  -- an image of the areas' length goes as far as the area
+  pub fetched-whole : length image ≡ totalOf areas → x + n ≤ spot .area .ead + 1 → length (fetched areas x n image) ≡ n
+  fetched-whole l h =
+      let b = inside-bounds (spot .area) x (found-inside 0 areas x spot p) in
+      fetched-length (omega (arith, area-below-total areas x spot p))
 
   -- where the area has so many left, its end makes no difference
   pub fetched-within : x + n ≤ spot .area .ead + 1 → fetched areas x n image ≡ take (min n (spot .area .ead + 1 - x)) (drop (offsetIn spot x) image)

@@ -9,6 +9,7 @@ use lib.ListN.{length, take, drop, getD, replicate, length-replicate, getD-repli
 use lib.Seq.{getD-take, getD-drop}
 use borrow.Author.Tests.{le-leb, lt-leb, lt-ltb, le-ltb}
 use Rattle.numbers.proofs.Copied.{copied, part-count}
+use Rattle.numbers.proofs.There.{entry-there}
 use Rattle.profile.specs.declared.Area.{Area}
 use Rattle.flash.specs.Effects.{Effect, between, erasing, storing}
 use Rattle.flash.specs.Meets.{Meets}
@@ -43,6 +44,10 @@ module _ (s : ℕ) (vs : List ℕ) where
   pub storing-in : (x b : ℕ) → s ≤ x → x < s + length vs → storing s vs x b ≡ getD vs (x - s) 0xFF
   unfolding storing
   storing-in = writing-in s (s + length vs) (λ x. getD vs (x - s) 0xFF)
+
+  -- whatever stands for a byte that vs lacks: inside the range it lacks none
+  pub stored-there : (x b : ℕ) → s ≤ x → x < s + length vs → (d : ℕ) → storing s vs x b ≡ getD vs (x - s) d
+  stored-there x b h i d = storing-in x b h i ∙ entry-there vs (x - s) 0xFF d (omega arith)
 
   pub storing-only : Only (storing s vs) s (s + length vs)
   unfolding storing

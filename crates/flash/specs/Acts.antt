@@ -7,7 +7,7 @@ use Rattle.flash.specs.declared.Act.{Act}
 use Rattle.flash.specs.declared.Act.the-variants.{Nothing, EraseRange, EraseAll, Store}
 use Rattle.flash.specs.Effects.{stored, erased, blanked}
 
--- bytes are the data bytes of the packet that was answered
+-- bytes are the data bytes of the packet that was answered; a write stores all of them: device_steps, proofs/Defaults, `packet-there`
 unfoldable pub performed : List Area → Act → List ℕ → List ℕ → List ℕ
 performed areas Nothing bytes image = image
 performed areas (EraseRange s e) bytes image = erased areas s e image

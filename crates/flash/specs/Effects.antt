@@ -19,7 +19,8 @@ unfoldable pub along : Effect → ℕ → List ℕ → List ℕ
 along f x [] = []
 along f x (b ∷ bs) = f x b ∷ along f (x + 1) bs
 
--- an effect on the image, the areas' bytes joined in table order
+-- an effect on the image, the areas' bytes joined in table order; no address that a granted request changes lies outside them: device_steps,
+-- proofs/Defaults, `target-placed` and `erase-placed`
 unfoldable pub changed : Effect → List Area → List ℕ → List ℕ
 changed f [] image = image
 changed f (a ∷ more) image = along f (a .sad) (take (sizeOf a) image) ++ changed f more (drop (sizeOf a) image)
@@ -28,7 +29,7 @@ changed f (a ∷ more) image = along f (a .sad) (take (sizeOf a) image) ++ chang
 abbrev pub between : ℕ → ℕ → ℕ → Bool
 between s e x = leb s x && ltb x e
 
--- the bytes vs stored from address s on
+-- the bytes vs stored from address s on; the FFh never decides: proofs/Writes, `stored-there`
 unfoldable pub storing : ℕ → List ℕ → Effect
 storing s vs x b = cond (between s (s + length vs) x) (getD vs (x - s) 0xFF) b
 
@@ -46,7 +47,8 @@ erased areas s e image = changed (erasing s e) areas image
 unfoldable pub blanked : List ℕ → List ℕ
 blanked image = replicate (length image) 0xFF
 
--- up to n bytes from address x on, as far as the image goes
+-- up to n bytes from address x on, as far as the image goes; on an accepted call always n: device_steps, proofs/Defaults, `read-whole`, `first-whole`
+-- and `target-whole`
 unfoldable pub fetchedAt : Place → ℕ → ℕ → List ℕ → List ℕ
 fetchedAt Nowhere x n image = []
 fetchedAt (In spot) x n image = take n (drop (offsetIn spot x) image)

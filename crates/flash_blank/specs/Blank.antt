@@ -1,4 +1,5 @@
--- The search for the first unit that holds a byte other than FFh. Units are counted from the front; a unit of 0 counts as 1.
+-- The search for the first unit that holds a byte other than FFh. Units are counted from the front; a unit of 0 counts as 1, which never decides in a
+-- write: device_steps, proofs/Defaults, `unit-there`.
 use mathlib.Core.Bool.{Bool, true, false, cond}
 use mathlib.Core.List.{List, [], _∷_}
 use Prim.Native.Nat.{ℕ, _+_, _/_, max}

@@ -5,7 +5,7 @@ use mathlib.Core.Option.{none}
 use mathlib.Core.Path.{_≡_, refl, sym, ap, _∙_}
 use Prim.Native.Nat.{ℕ, _+_, _≤_}
 use native.Mathlib.Omega.{arith}
-use lib.ListN.{length, take, drop, length-append, length-drop}
+use lib.ListN.{length, take, drop, getD, length-append, length-drop}
 use lib.Seq.{length-take-le, take-append-le}
 use borrow.Author.Tests.{not-false}
 use Rattle.verdict.specs.Check.{firstFault, NoneApplies}
@@ -16,6 +16,7 @@ use Rattle.profile.specs.declared.Place.{Place}
 use Rattle.profile.specs.declared.Place.the-variants.{In, Nowhere}
 use Rattle.numbers.specs.Same.{same}
 use Rattle.numbers.proofs.Same.{same-eq}
+use Rattle.numbers.proofs.There.{entry-there}
 use Rattle.id_code.specs.Identity.{configFrom, noId, idAt, idOf, bit127, eraseCode, totalErase, idChecks}
 
 -- sixteen bytes, for every image
@@ -35,6 +36,10 @@ unfolding idAt
 id-whole spot image h =
     let enough : 16 ≤ length (drop (spot .base) image) = rw length-drop (omega arith) in
     take-append-le 16 (drop (spot .base) image) noId enough
+
+-- an ID has a first byte: bits 127 and 126 are its
+pub first-there : (id : List ℕ) → length id ≡ 16 → (d : ℕ) → getD id 0 d ≡ getD id 0 0
+first-there id h d = entry-there id 0 d 0 (omega arith)
 
 -- 41h has bit 127 clear
 pub erase-unset : (code : List ℕ) → same code eraseCode ≡ true → bit127 code ≡ false

@@ -22,7 +22,7 @@ configFrom base (a ∷ more) = cond (eqb (a .koa) 2) (In (record { area = a; bas
 abbrev pub noId : List ℕ
 noId = replicate 16 0xFF
 
--- FFh stands for what an image lacks; one that fits lacks none
+-- FFh stands for what an image lacks; it never decides: device_steps, proofs/Defaults, `id-there`
 unfoldable pub idAt : Place → List ℕ → List ℕ
 idAt Nowhere image = noId
 idAt (In spot) image = take 16 (drop (spot .base) image ++ noId)
@@ -34,7 +34,7 @@ idOf areas image = idAt (configFrom 0 areas) image
 unfoldable pub isNone : List ℕ → Bool
 isNone id = same id noId
 
--- bit 127 is the top bit of the first byte, bit 126 the one below
+-- bit 127 is the top bit of the first byte, bit 126 the one below; the 0 for no byte never decides: proofs/Codes, `first-there`
 unfoldable pub bit127 : List ℕ → Bool
 bit127 id = leb 128 (getD id 0 0)
 

@@ -1,6 +1,7 @@
 -- Which row refuses a call from outside: those of starting, then the state's. Assumes nothing.
 use mathlib.Core.Bool.{true, false, not}
 use mathlib.Core.List.{List, [], _∷_, _++_}
+use mathlib.Core.Option.{Option, none}
 use mathlib.Core.Path.{_≡_, sym, ap, _∙_}
 use Prim.Native.Nat.{ℕ}
 use native.Mathlib.Omega.{arith}
@@ -8,13 +9,14 @@ use lib.ListN.{length}
 use lib.Dec.{eqb}
 use borrow.Author.Tests.{eqb-true, not-false, eq-eqb, ne-eqb}
 use Rattle.verdict.specs.Check.{Check, _gives_, firstFault, NoneApplies}
-use Rattle.verdict.proofs.FirstFault.{clear, clear-right}
+use Rattle.verdict.proofs.FirstFault.{found, clear, clear-right}
 use Rattle.profile.specs.declared.Profile.{Profile}
 use Rattle.profile_rules.specs.Rules.{headChecks, profileChecks}
 use Rattle.profile_bytes.specs.Profile.{profileLength, profileIn}
 use Rattle.state_bytes.specs.declared.StageIn.{StageIn}
 use Rattle.state_bytes.specs.declared.StageIn.the-variants.{NoStage}
-use Rattle.state_bytes.specs.State.{stateLength, stateBy, stageIn}
+use Rattle.state_bytes.specs.State.{stateLength, stateBy, stageIn, stateIn}
+use Rattle.state.specs.declared.State.{State}
 use Rattle.state.specs.State.{zeroState}
 use Rattle.device_calls.specs.declared.Row.{Row}
 use Rattle.device_calls.specs.declared.Row.the-variants.{Unacceptable, WrongState}
@@ -93,3 +95,12 @@ feed-no-state profile l e =
 
 pub nowhere-refused : (profile : List ℕ) (n : ℕ) → startingRefusal profile n 0 ≡ Accepted → ⊥
 nowhere-refused profile n e = omega (arith, accepted-room profile n 0 e)
+
+-- an accepted feed has a state, so the zero state that stands for none decides nothing
+pub state-there : (profile : List ℕ) (l : LentBytes) → feedingRefusal profile l ≡ Accepted → stateIn (l .state) ≡ none → ⊥
+unfolding firstFault feedingRows
+state-there profile l a e =
+    let first : List (Check Row) = startRows (profileIn profile) (length (l .image)) in
+    let behind : Option State → List (Check Row) = λ st. stateRows (profileIn profile) st (l .receive) (length (l .reply)) in
+    let c : firstFault (first ++ behind (stateIn (l .state))) ≡ none = no-row _ a in
+    found (clear-right first (behind none) (ap (λ (st : Option State). firstFault (first ++ behind st)) (sym e) ∙ c))

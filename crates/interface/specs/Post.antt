@@ -44,7 +44,7 @@ pub record ResetBytes (profile : List ℕ) (n : ℕ) (before after : List ℕ) (
   pub number : r ≡ numberOf (startingRefusal profile n (length before))
   pub state : after ≡ resetOver (startingRefusal profile n (length before)) (profileIn profile) before
 
--- the state in the bytes; the zero state stands for none
+-- the state in the bytes; the zero state stands for none, and never decides: proofs/Refusals, `state-there`
 abbrev pub stateOr : Option State → State
 stateOr none = zeroState
 stateOr (some st) = st

@@ -4,3 +4,4 @@ pub mod Part
 pub mod RoundTrip
 pub mod Turns
 pub mod Same
+pub mod There

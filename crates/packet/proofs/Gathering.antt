@@ -16,7 +16,7 @@ use Rattle.packet.specs.Packet.{startOf, longestOf, permitted, lengthOf,
 use Rattle.packet.proofs.Laws.{impossible, both, permitted-most, longest-most}
 
 -- the tests that lead to an answer, in their order
-abbrev answerOf : (empty right short fits early exact : Bool) → Progress
+abbrev pub answerOf : (empty right short fits early exact : Bool) → Progress
 answerOf empty right short fits early exact =
     cond empty Partial
     (cond (not right) Astray
@@ -163,7 +163,7 @@ module _ (q more : List ℕ) where
   front-start : 0 < length q → getD q 0 0 ≡ getD (q ++ more) 0 0
   front-start h = sym (List·getD-append q more 0 0 h)
 
-  front-says : 3 ≤ length q → lengthOf q ≡ lengthOf (q ++ more)
+  pub front-says : 3 ≤ length q → lengthOf q ≡ lengthOf (q ++ more)
   unfolding lengthOf
   front-says h =
       let l : 2 ≤ length (drop 1 q) = rw length-drop (omega arith) in
@@ -219,7 +219,7 @@ pub record Good (q : List ℕ) : Type 0 where
   pub is : Whole kind q
   pub ends : endsWell q ≡ true
 
-is-complete : (p : Progress) → isComplete p ≡ true → p ≡ Complete
+pub is-complete : (p : Progress) → isComplete p ≡ true → p ≡ Complete
 is-complete Astray e = impossible (cc)
 is-complete Partial e = impossible (cc)
 is-complete Unfit e = impossible (cc)

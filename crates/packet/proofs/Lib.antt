@@ -5,3 +5,4 @@ pub mod Frames
 pub mod Gathering
 pub mod Laws
 pub mod Partial
+pub mod There

@@ -24,7 +24,7 @@ longestOf Data = 1025
 unfoldable pub permitted : Kind → ℕ → Bool
 permitted kind n = leb 1 n && leb n (longestOf kind)
 
--- what the two bytes behind the start byte say
+-- what the two bytes behind the start byte say; looked at only where both are there: proofs/There, `length-whole`
 unfoldable pub lengthOf : List ℕ → ℕ
 lengthOf q = number (field 2 1 q)
 
@@ -35,7 +35,7 @@ measuredOf kind count n =
     (cond (ltb count (n + 5)) Partial
     (cond (eqb count (n + 5)) Complete Excess))
 
--- what the bytes q are to a packet of a kind
+-- what the bytes q are to a packet of a kind; the 0 for a start byte that is not there never decides: proofs/There, `start-there`
 unfoldable pub progressOf : Kind → List ℕ → Progress
 progressOf kind q =
     cond (eqb (length q) 0) Partial
@@ -47,7 +47,7 @@ unfoldable pub sumOf : List ℕ → ℕ
 sumOf [] = 0
 sumOf (b ∷ bs) = b + sumOf bs
 
--- the last byte of a packet
+-- the last byte of a packet; the 0 for none never decides: proofs/There, `etx-there`
 abbrev pub etxOf : List ℕ → ℕ
 etxOf q = getD q (length q - 1) 0
 

@@ -1,17 +1,18 @@
--- The numbers of commands, the bytes between COM and SUM and where they stand, and a number that is there. Assumes nothing.
+-- The numbers of commands, the bytes between COM and SUM and where they stand, a COM and a number that are there. Assumes nothing.
 use mathlib.Core.Bool.{Bool, true, false, cond}
 use mathlib.Core.List.{List, []}
 use mathlib.Core.Path.{_≡_, refl, sym, ap, _∙_}
 use Prim.Native.Nat.{ℕ, _+_, _-_, _≤_, _<_}
 use native.Mathlib.Omega.{arith}
-use lib.ListN.{length, take, drop}
+use lib.ListN.{length, take, drop, getD}
 use lib.Dec.{ltb, eqb}
 use borrow.Author.Tests.{ne-eqb, eqb-true, le-leb, lt-ltb, le-ltb, ltb-true, ltb-false}
 use Rattle.numbers.specs.Bytes.{number, field, numberAt}
 use Rattle.numbers.proofs.Part.{part-there}
+use Rattle.numbers.proofs.There.{entry-there, field-there}
 use Rattle.packet_fields.specs.declared.Com.{Com}
 use Rattle.packet_fields.specs.declared.Com.the-variants.{Inquiry, Erase, Write, Read, Authenticate, Baud, Signature, Area, Unknown}
-use Rattle.packet_fields.specs.Fields.{comNumber, comOf, infoCount, infoOf, infoAt, valueOf}
+use Rattle.packet_fields.specs.Fields.{comNumber, comOf, codeAt, infoCount, infoOf, infoAt, valueOf}
 
 -- a number that is none of the eight
 pub com-unknown : (n : ℕ)
@@ -83,6 +84,14 @@ info-there q = by (ltb (length q) 6) refl
     by : (t : Bool) → ltb (length q) 6 ≡ t → infoOf q ≡ take (length (infoOf q)) (drop (infoAt q) q)
     by true t = part-there 0 (infoAt q) q (infoOf q) (info-none q (ltb-true (length q) 6 t))
     by false t = rw (info-at-part q (ltb-false (length q) 6 t)) (part-there (infoCount q) 4 q (infoOf q) refl)
+
+-- a packet of at least six bytes has a COM or RES, and its information is not cut short
+module _ (q : List ℕ) (h : 6 ≤ length q) where
+  pub code-there : (d : ℕ) → getD q 3 d ≡ codeAt q
+  code-there d = entry-there q 3 d 0 (omega arith)
+
+  pub info-whole : length (infoOf q) ≡ infoCount q
+  info-whole = field-there (infoCount q) 4 q (omega arith)
 
 -- a number that is there
 pub value-read : (w at : ℕ) (bs : List ℕ) → at + w ≤ length bs → valueOf (numberAt w bs at) ≡ number (field w at bs)

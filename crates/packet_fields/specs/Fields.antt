@@ -35,7 +35,7 @@ comOf n =
     (cond (eqb n (comNumber Area)) Area
     Unknown)))))))
 
--- COM or RES of a packet, and the bytes between it and SUM
+-- COM or RES of a packet, and the bytes between it and SUM; the 0 for none never decides: device_steps, proofs/Defaults, `packet-there`
 abbrev pub codeAt : List ℕ → ℕ
 codeAt q = getD q 3 0
 
@@ -49,7 +49,8 @@ infoOf q = take (infoCount q) (drop 4 q)
 unfoldable pub infoAt : List ℕ → ℕ
 infoAt q = cond (ltb (length q) 6) 0 4
 
--- the number in the four bytes from a place on; a command of the right length has them
+-- the number in the four bytes from a place on; the 0 for bytes that are not there never decides: check_command, proofs/There, `sad-there`,
+-- `ead-there` and `brt-there`
 abbrev pub valueOf : Number → ℕ
 valueOf (Is n) = n
 valueOf CutShort = 0
@@ -57,7 +58,7 @@ valueOf CutShort = 0
 unfoldable pub fourAt : List ℕ → ℕ → ℕ
 fourAt q at = valueOf (numberAt 4 q at)
 
--- SAD and EAD of a range, BRT of a rate, and an area's number
+-- SAD and EAD of a range, BRT of a rate, and an area's number; the 0 for none never decides: check_command, proofs/There, `area-number-there`
 abbrev pub sadOf : List ℕ → ℕ
 sadOf q = fourAt q 4
 

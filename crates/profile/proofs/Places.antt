@@ -94,6 +94,15 @@ between base (a ∷ more) x spot (inr later) =
 pub below-total : (areas : List Area) (x : ℕ) (spot : Spot) → placeOf areas x ≡ In spot → offsetIn spot x < totalOf areas
 below-total areas x spot e = omega (arith, between 0 areas x spot (found 0 areas x spot e) .below)
 
+-- and so does the end of the area in which an address was found: the image has all of it
+area-between : (base : ℕ) (areas : List Area) (x : ℕ) (spot : Spot) → Found base areas x spot → spot .base + sizeOf (spot .area) ≤ base + totalOf areas
+unfolding tally
+area-between base (a ∷ more) x spot (inl here) = subst (λ (s : Spot). s .base + sizeOf (s .area) ≤ base + totalOf (a ∷ more)) (here .1) (omega arith)
+area-between base (a ∷ more) x spot (inr later) = omega (arith, area-between (base + sizeOf a) more x spot (later .1))
+
+pub area-below-total : (areas : List Area) (x : ℕ) (spot : Spot) → placeOf areas x ≡ In spot → spot .base + sizeOf (spot .area) ≤ totalOf areas
+area-below-total areas x spot e = omega (arith, area-between 0 areas x spot (found 0 areas x spot e))
+
 -- an address of the first area, and one that was found behind it
 apart : (base : ℕ) (a : Area) (more : List Area) (x y : ℕ) (s t : Spot) → (inside a x ≡ true) × (spotAt base a ≡ s) → Found (base + sizeOf a) more y t
     → offsetIn s x ≡ offsetIn t y → ⊥

@@ -1,9 +1,11 @@
 -- Walking the table from its first entry on. Assumes nothing.
 use mathlib.Core.List.{List, [], _∷_}
 use mathlib.Core.Path.{_≡_, refl, ap}
-use Prim.Native.Nat.{ℕ, suc, _+_, _-_, _≤_, _<_, min}
+use Prim.Native.Nat.{ℕ, zero, suc, _+_, _-_, _≤_, _<_, min}
+use native.Mathlib.Numerals.{add-one}
 use native.Mathlib.Omega.{arith}
-use lib.ListN.{getD}
+use lib.ListN.{length, take, drop, getD}
+use lib.Seq.{drop-cons}
 use Rattle.profile.specs.declared.Area.{Area}
 use Rattle.profile.specs.declared.Profile.{Profile}
 use lib.Dec.{leb}
@@ -31,6 +33,18 @@ pub entries-start : (p : Profile) (n : ℕ) → n ≡ min (p .noa) 8 → entries
 entries-start p n e =
     let z : n - 0 ≡ min (p .noa) 8 = omega arith in
     ap (λ (k : ℕ). entries 0 k (p .areas)) z
+
+-- entries that the table has: what stands for no entry is none of them
+pub entries-there : (table : List Area) (i n : ℕ) → i + n ≤ length table → entries i n table ≡ take n (drop i table)
+unfolding entries
+entries-there table i zero h = refl
+entries-there table i (suc n) h =
+    let k : i < length table = omega arith in
+    rw (drop-cons table i noArea k, add-one i) (ap (λ (t : List Area). getD table i noArea ∷ t) (entries-there table (suc i) n (omega arith)))
+
+-- a table of eight entries has all areas, whatever NOA is
+pub areas-there : (p : Profile) → length (p .areas) ≡ 8 → areasOf p ≡ take (min (p .noa) 8) (p .areas)
+areas-there p h = entries-there (p .areas) 0 (min (p .noa) 8) (omega arith)
 
 -- a number of each area, added up over what is left of n entries at entry i
 module _ (f : Area → ℕ) (table : List Area) (i n : ℕ) where

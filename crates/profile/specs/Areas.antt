@@ -7,7 +7,7 @@ use lib.Dec.{leb}
 use Rattle.profile.specs.declared.Area.{Area}
 use Rattle.profile.specs.declared.Profile.{Profile}
 
--- what stands at no entry of a table: no byte of it is ever asked for
+-- what stands at no entry of a table; it never decides: device_steps, proofs/Defaults, `all-areas` and `area-there`
 abbrev pub noArea : Area
 noArea = record { koa = 0; sad = 0; ead = 0; eau = 0; wau = 0 }
 

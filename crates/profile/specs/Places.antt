@@ -21,7 +21,7 @@ placeOf areas x = placeFrom 0 areas x
 abbrev pub offsetIn : Spot → ℕ → ℕ
 offsetIn spot x = spot .base + (x - spot .area .sad)
 
--- WAU of the area of a place
+-- WAU of the area of a place; that of nowhere never decides: device_steps, proofs/Defaults, `unit-there`
 abbrev pub unitAt : Place → ℕ
 unitAt (In spot) = spot .area .wau
 unitAt Nowhere = 0

@@ -1,6 +1,6 @@
 -- A range is granted exactly where it lies in an area that allows it, and what is left of a granted range is granted. Assumes nothing.
 use mathlib.Core.Bool.{Bool, true, false, _&&_, not}
-use mathlib.Core.List.{List}
+use mathlib.Core.List.{List, _∷_}
 use mathlib.Core.Logic.{_↔_}
 use mathlib.Core.Path.{_≡_, refl, sym, ap, subst, _∙_}
 use Prim.Native.Nat.{ℕ, _+_, _%_, _≤_}
@@ -8,8 +8,9 @@ use native.Mathlib.Nat.{add-mod, zero-mod}
 use native.Mathlib.Omega.{arith}
 use lib.Dec.{leb, ltb, eqb}
 use borrow.Author.Tests.{ltb-false, leb-false, eqb-true, eqb-false, not-false, le-ltb, lt-leb, eq-eqb, ne-eqb}
+use Rattle.verdict.specs.declared.Reason.the-variants.{Reversed, StartNowhere}
 use Rattle.verdict.specs.declared.Verdict.the-variants.{Granted}
-use Rattle.verdict.specs.Check.{firstFault, NoneApplies, verdictOf}
+use Rattle.verdict.specs.Check.{_gives_, firstFault, NoneApplies, verdictOf}
 use Rattle.verdict.proofs.FirstFault.{clear, grants, granted-clear}
 use Rattle.profile.specs.declared.Area.{Area}
 use Rattle.profile.specs.declared.Window.{Window}
@@ -129,6 +130,13 @@ module _ (areas : List Area) (w : Window) (purpose : Purpose) (s e : ℕ) where
       go (In spot) f h = record { spot = spot; inArea = granted-in spot f p; allowed = granted-allowed spot f p }
       go Nowhere f h = let z : _≡_ {A = ℕ} 0 1 = cc in absurd (omega arith)
 
+  -- every address of a granted range has a place
+  pub granted-placed : Permitted areas w purpose s e → (x : ℕ) → s ≤ x → x ≤ e → placeOf areas x ≡ Nowhere → ⊥
+  granted-placed p x from to =
+      let l : Lies areas w purpose s e = in-area p in
+      let i : inside (l .spot .area) x ≡ true = inside-within (l .spot .area) x (omega (arith, l .inArea .starts)) (omega (arith, l .inArea .ends)) in
+      area-has-place 0 areas s x (l .spot) (l .inArea .found) i
+
   -- so these are the granted ranges, no more and no fewer
   pub granted-exactly : Permitted areas w purpose s e ↔ Lies areas w purpose s e
   granted-exactly = (in-area, λ l. grants-in (l .spot) (l .inArea) (l .allowed))
@@ -137,6 +145,19 @@ module _ (areas : List Area) (w : Window) (purpose : Purpose) (s e : ℕ) where
   pub verdict-exactly : (verdictOf (firstFault (rangeChecks areas w purpose s e)) ≡ Granted) ↔ Permitted areas w purpose s e
   unfolding Permitted
   verdict-exactly = (granted-clear (firstFault (rangeChecks areas w purpose s e)), λ p. ap verdictOf p)
+
+-- where the start is nowhere no area is looked at: the first fault is the same with any
+pub start-area : (areas : List Area) (w : Window) (purpose : Purpose) (s e : ℕ) → placeOf areas s ≡ Nowhere → (a : Area)
+    → firstFault ((ltb e s gives Reversed) ∷ (nowhere (placeOf areas s) gives StartNowhere) ∷ endChecks areas a w purpose s e)
+    ≡ firstFault (rangeChecks areas w purpose s e)
+unfolding rangeChecks firstFault
+start-area areas w purpose s e f a = go (ltb e s) refl
+  where
+    go : (t : Bool) → ltb e s ≡ t
+        → firstFault ((ltb e s gives Reversed) ∷ (nowhere (placeOf areas s) gives StartNowhere) ∷ endChecks areas a w purpose s e)
+        ≡ firstFault (rangeChecks areas w purpose s e)
+    go true t = simp t
+    go false t = simp (t, f)
 
 -- what is left of a change once whole units of it are done
 pub changeable-later : (w : Window) (koa unit s e n : ℕ) → n % unit ≡ 0 → Changeable w koa unit s e → Changeable w koa unit (s + n) e

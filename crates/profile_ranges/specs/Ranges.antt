@@ -53,7 +53,7 @@ abbrev pub nowhere : Place → Bool
 nowhere (In spot) = false
 nowhere Nowhere = true
 
--- the area of a place that was found
+-- the area of a place that was found; that of nowhere never decides: proofs/Granted, `start-area`
 abbrev pub areaOf : Place → Area
 areaOf (In spot) = spot .area
 areaOf Nowhere = noArea
