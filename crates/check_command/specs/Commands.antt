@@ -22,15 +22,7 @@ use Rattle.state.specs.State.{windowOf}
 use Rattle.packet_fields.specs.Fields.{comNumber, comOf, codeAt, infoCount, infoOf, sadOf, eadOf, brtOf, areaNumberOf, infoLength}
 
 abbrev pub isUnknown : Com → Bool
-isUnknown Inquiry = false
-isUnknown Erase = false
-isUnknown Write = false
-isUnknown Read = false
-isUnknown Authenticate = false
-isUnknown Baud = false
-isUnknown Signature = false
-isUnknown Area = false
-isUnknown Unknown = true
+isUnknown cmd = eqb (comNumber cmd) (comNumber Unknown)
 
 -- authentication stage permits only authenticate, command stage all but that; no command is received elsewhere
 abbrev pub stageWrong : Stage → ℕ → Bool

@@ -1,4 +1,5 @@
 pub mod Rows
+pub mod Once
 pub mod Lines
 pub mod Sessions
 pub mod Requests
@@ -6,3 +7,5 @@ pub mod Stopping
 pub mod Demand1
 pub mod Demand2
 pub mod Demand3
+pub mod Recordings
+pub mod Outside

@@ -23,7 +23,7 @@ use Rattle.device_steps.proofs.Decided.{unfit-is}
 use Rattle.device_steps.proofs.Kept.{fresh-fits, still-fits}
 use Rattle.device_steps.proofs.Replies.{brings-or}
 use Rattle.record_history.specs.History.{Call, deliver, again, freshOf, hearing, entriesAt, heardRecord, recordOf}
-use Rattle.record_history.proofs.Demand3.{hearing-fits}
+use Rattle.record_history.proofs.Lasting.{hearing-fits}
 use Rattle.demands.specs.Demand3.{IsRequest, OnlyRequests}
 use Rattle.record_history.proofs.Recorded.{entry-asked, entry-unasked}
 

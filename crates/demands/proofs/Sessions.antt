@@ -12,14 +12,13 @@ use lib.Seq.{take-length, take-append-seam}
 use Rattle.profile.specs.declared.Profile.{Profile}
 use Rattle.packet.specs.Packet.{good}
 use Rattle.packet.specs.Frame.{front}
-use Rattle.packet.proofs.Laws.{impossible}
 use Rattle.state.specs.declared.State.{State}
 use Rattle.state.specs.State.{freshState}
 use Rattle.device_calls.specs.declared.Row.{Row}
 use Rattle.device_calls.specs.declared.Refusal.{Refusal}
 use Rattle.device_calls.specs.declared.Refusal.the-variants.{Accepted, By}
 use Rattle.device_calls.specs.declared.Started.{Started}
-use Rattle.device_calls.specs.Calls.{Lent, isAccepted, Starts}
+use Rattle.device_calls.specs.Calls.{Lent, Starts}
 use Rattle.device_steps.specs.Step.{Machine, stepOf}
 use Rattle.device_steps.specs.Feed.{Delivery, feedOf}
 use Rattle.device_steps.specs.Records.{Brings}
@@ -33,7 +32,7 @@ use Rattle.record_history.specs.History.{Call, deliver, again, freshOf, hearing
 use Rattle.record_history.proofs.Cut.{feed-hears}
 use Rattle.record_history.proofs.Recorded.{unanswered-entry, entry-asked, entry-unasked, record-continued, machine-continued, delivery-record}
 use Rattle.demands.specs.Line.{IsReply, packetsIn, answersIn}
-use Rattle.demands.specs.Session.{Kept, lentBy, machineIn, Turn, feeding, resetting, mistaking, Met, keptBy, keptAfter, AllMet, resetIn, callsIn, historyOf, replyOf, gotBy, gotIn}
+use Rattle.demands.specs.Session.{Kept, lentBy, machineIn, Turn, feeding, resetting, mistaking, Honest, keptBy, keptAfter, AllHonest, resetIn, callsIn, historyOf, replyOf, gotBy, gotIn}
 use Rattle.demands.proofs.Rows.{feed-ran, feed-unfed, start-keeps, start-fresh}
 use Rattle.demands.proofs.Lines.{good-least, answered-exactly}
 
@@ -181,9 +180,9 @@ module _ (p : Profile) (k : Kept) (r : Started) (s : Starts p (length (k .image)
 
 -- a mistake that was refused
 module _ (p other : Profile) (st : State) (k : Kept) (input reply : List ℕ) (after : Lent) (r : Fed) (f : Feeds other st input (lentBy k reply) after r) where
-  mistake-goes : (x : Refusal) → r .refusal ≡ x → isAccepted (r .refusal) ≡ false → Goes p k (mistaking other st input reply after r)
+  mistake-goes : (x : Refusal) → r .refusal ≡ x → (r .refusal ≡ Accepted → ⊥) → Goes p k (mistaking other st input reply after r)
   unfolding machineAfter packetsIn answersIn recordOf
-  mistake-goes Accepted e n = let z : isAccepted (r .refusal) ≡ true = ap isAccepted e in impossible (cc)
+  mistake-goes Accepted e n = absurd (n e)
   mistake-goes (By row) e n =
       let un : Unfed row st (lentBy k reply) after r = feed-unfed f row e in
       let count : r .count ≡ 0 = ap (λ (x : Fed). x .count) (un .is) in
@@ -192,23 +191,23 @@ module _ (p other : Profile) (st : State) (k : Kept) (input reply : List ℕ) (a
         got = ap (λ (n : ℕ). packetsIn (replyOf n (after .reply))) count;
       }
 
-turn-goes : (p : Profile) (k : Kept) (t : Turn) → Met p k t → Goes p k t
+turn-goes : (p : Profile) (k : Kept) (t : Turn) → Honest p k t → Goes p k t
 turn-goes p k (feeding input reply after r) f = by-refusal p k input reply after r f (r .refusal) refl
 turn-goes p k (resetting r) s = reset-goes p k r s (r .refusal) refl
 turn-goes p k (mistaking other st input reply after r) f = mistake-goes p other st k input reply after r (f .0) (r .refusal) refl (f .1)
 
 -- over all calls
-pub calls-history : (p : Profile) (k : Kept) (turns : List Turn) → AllMet p k turns → machineIn (keptAfter k turns) ≡ machineAfter p (machineIn k) (historyOf turns)
-unfolding keptAfter AllMet historyOf machineAfter
+pub calls-history : (p : Profile) (k : Kept) (turns : List Turn) → AllHonest p k turns → machineIn (keptAfter k turns) ≡ machineAfter p (machineIn k) (historyOf turns)
+unfolding keptAfter AllHonest historyOf machineAfter
 calls-history p k [] met = refl
 calls-history p k (t ∷ more) met =
     calls-history p (keptBy k t) more (met .1)
     ∙ ap (λ (m : Machine). machineAfter p m (historyOf more)) (turn-goes p k t (met .0) .machine)
     ∙ sym (machine-continued p (machineIn k) (callsIn t) (historyOf more))
 
-pub calls-got : (p : Profile) (k : Kept) (turns : List Turn) → AllMet p k turns
+pub calls-got : (p : Profile) (k : Kept) (turns : List Turn) → AllHonest p k turns
     → packetsIn (gotIn turns) ≡ answersIn (recordOf p (machineIn k) (historyOf turns))
-unfolding AllMet historyOf gotIn packetsIn answersIn recordOf
+unfolding AllHonest historyOf gotIn packetsIn answersIn recordOf
 calls-got p k [] met = refl
 calls-got p k (t ∷ more) met =
     let m : Machine = machineIn k in

@@ -5,7 +5,7 @@ use mathlib.Core.List.{List, [], _∷_, _++_}
 use mathlib.Core.Logic.{_⊎_, _↔_}
 use mathlib.Core.Path.{_≡_}
 use Prim.Native.Nat.{ℕ, _+_, _<_}
-use lib.ListN.{length, getD}
+use lib.ListN.{length, take, getD}
 use Rattle.verdict.specs.declared.Reason.{Reason}
 use Rattle.verdict.specs.declared.Verdict.the-variants.{Granted, Refused}
 use Rattle.verdict.specs.Check.{Check, NoneApplies, IsFirst}
@@ -40,9 +40,16 @@ use Rattle.device_steps.specs.Step.{Machine, machineOf, settled, refusedEarly, 
 use Rattle.device_steps.specs.Feed.{Delivery, feedOf}
 use Rattle.device_steps.specs.Records.{heardWith, completes, refuses, Brings}
 use Rattle.device.specs.declared.Fed.{Fed}
-use Rattle.device.specs.Post.{Ran, SameOutcome, Feeds}
+use Rattle.device.specs.Post.{Ran, Feeds}
 use Rattle.record_history.specs.History.{hearing}
 use Rattle.demands.specs.Line.{EachIn}
+
+-- two outcomes that a caller cannot tell apart: all is the same but the received bytes beyond the held ones
+pub record SameOutcome (after after′ : Lent) (r r′ : Fed) : Type 0 where
+  pub result : r ≡ r′
+  pub image : after .image ≡ after′ .image
+  pub held : take (r .state .held) (after .receive) ≡ take (r′ .state .held) (after′ .receive)
+  pub reply : after .reply ≡ after′ .reply
 
 -- bytes that are not answered
 abbrev pub Unanswered : Profile → Machine → List ℕ → Type 0
@@ -76,29 +83,22 @@ pub record Demand2 : Type 0 where
   -- an accepted feed leaves what is defined: state, consumed count, reply length, image, held bytes, reply buffer
   pub leaves : (p : Profile) (st : State) (input : List ℕ) (before after : Lent) (r : Fed) → Feeds p st input before after r → r .refusal ≡ Accepted
       → Ran (feedOf p (machineOf st before) input) input before after r
-
   -- and no second outcome, accepted or refused, does what feeding promises
   pub once : (p : Profile) (st : State) (input : List ℕ) (before after after′ : Lent) (r r′ : Fed)
       → Feeds p st input before after r → Feeds p st input before after′ r′ → SameOutcome after after′ r r′
-
   -- what is consumed: everything, or all up to the first byte that is answered
   pub consumed : (p : Profile) (m : Machine) (bs : List ℕ) → HeardAll p m bs (feedOf p m bs) ⊎ StopsBehind p m bs (feedOf p m bs)
-
   -- a byte that completes a packet is answered as its stage says, with the packet's act performed
   pub complete : (p : Profile) (m : Machine) (b : ℕ) → completes m b ≡ true
       → stepOf p m b ≡ settled p m (infoOf (heardWith m b)) (answerOf p (m .image) (m .state) (m .state .stage) (heardWith m b))
-
   -- a length outside its range is answered at once
   pub early : (p : Profile) (m : Machine) (b : ℕ) → refuses m b ≡ true → stepOf p m b ≡ settled p m [] (refusedEarly (m .state))
-
   -- any other byte where a packet is awaited is not answered, and changes no byte of the flash
   pub quiet : (p : Profile) (m : Machine) (b : ℕ) (kind : Kind) → awaitsOf (m .state .stage) ≡ Packet kind → (Brings m b → ⊥)
       → (stepOf p m b .reply ≡ []) × (stepOf p m b .machine .image ≡ m .image)
-
   -- waking up
   pub waking : (p : Profile) (m : Machine) (b : ℕ) (pulse : Pulse) → m .state .stage ≡ Setting pulse
       → stepOf p m b ≡ settled p m [] (wakeOf p (m .image) (m .state) pulse b)
-
   -- a complete command; a complete packet in a write, and in a read
   pub command : (p : Profile) (image : List ℕ) (st : State) (q : List ℕ)
       → GoesBy (commandChecks p st q) (grantOf p image st q (comOf (codeAt q))) (codeAt q) (st .stage) st (answerCommand p image st q)
@@ -106,7 +106,6 @@ pub record Demand2 : Type 0 where
       → GoesBy (writeChecks (areasOf p) image r q) (writeDecided st r q Granted) (comNumber Write) Command st (answerWrite p image st r q)
   pub next : (p : Profile) (image : List ℕ) (st : State) (r : Range) (q : List ℕ)
       → GoesBy (nextChecks q) (readPacket p image st r) (comNumber Read) Command st (answerNext p image st r q)
-
   -- the effects, at every address that an area has: a byte of the image changes as its address says, and total erase leaves FFh alone
   pub erases : (areas : List Area) (image : List ℕ) (x : ℕ) (spot : Spot) → placeOf areas x ≡ In spot → offsetIn spot x < length image → (s e : ℕ)
       → getD (erased areas s e image) (offsetIn spot x) 0 ≡ erasing s e x (getD image (offsetIn spot x) 0)

@@ -1,10 +1,10 @@
 -- Demand 3. Start from any acceptable profile, kept throughout, and any image that fits it. After any bytes, cut into any deliveries, with resets
 -- between, and with nobody else touching the lent buffers or state, the flash equals the starting image with the line's own record replayed.
-use mathlib.Core.List.{List, [], _∷_, _++_}
+use mathlib.Core.List.{List, [], _∷_, _++_, map}
 use mathlib.Core.Logic.{_⊎_}
 use mathlib.Core.Path.{_≡_}
 use Prim.Native.Nat.{ℕ}
-use lib.ListN.{length}
+use lib.ListN.{length, take}
 use Rattle.profile.specs.declared.Area.{Area}
 use Rattle.profile.specs.declared.Profile.{Profile}
 use Rattle.profile.specs.Areas.{areasOf, totalOf}
@@ -13,22 +13,16 @@ use Rattle.packet.specs.declared.Kind.{Kind}
 use Rattle.packet.specs.declared.Progress.the-variants.{Unfit, Complete}
 use Rattle.packet.specs.Packet.{progressOf}
 use Rattle.packet.specs.Frame.{Roomy}
-use Rattle.state.specs.State.{zeroState, freshState}
-use Rattle.recording.specs.Recording.{recordsOf, written}
-use Rattle.record_exchange.specs.Line.{Entry, exchange, restart, taped}
+use Rattle.state.specs.State.{zeroState}
+use Rattle.record_exchange.specs.Line.{Entry, exchange, restart}
 use Rattle.record_replay.specs.Replay.{replay}
-use Rattle.record_replay.specs.Blind.{bared}
-use Rattle.record_replay.specs.Post.{Played}
 use Rattle.device_calls.specs.declared.Refusal.the-variants.{Accepted}
 use Rattle.device_calls.specs.declared.Started.{Started}
-use Rattle.device_calls.specs.Calls.{Lent, feedRefusal, Starts}
+use Rattle.device_calls.specs.Calls.{buffers, startRefusal, feedRefusal, Starts}
 use Rattle.device_steps.specs.Step.{Machine}
-use Rattle.record_history.specs.History.{Call, deliver, freshOf, machineAfter, recordOf, callsOf}
-use Rattle.record_history.specs.Faithful.{Faithful}
-use Rattle.record_driver.specs.declared.Driven.{Driven}
-use Rattle.record_driver.specs.Post.{Drives}
+use Rattle.record_history.specs.History.{Call, deliver, freshOf, machineAfter, recordOf}
 use Rattle.demands.specs.Line.{IsRecord}
-use Rattle.demands.specs.Session.{Kept, lentBy, machineIn, Turn, AllMet, keptAfter, historyOf}
+use Rattle.demands.specs.Session.{Kept, lentBy, machineIn, Turn, AllHonest, keptAfter, historyOf}
 
 -- a request as it stands in a record: one whole packet of a kind, or the three bytes of a length that was refused
 pub record IsRequest (q : List ℕ) : Type 0 where
@@ -47,13 +41,19 @@ reached p image calls = machineAfter p (freshOf p image) calls
 abbrev pub left : Profile → List ℕ → List Call → List Entry
 left p image calls = recordOf p (freshOf p image) calls
 
+-- a reset is accepted, and so is a feed with buffers of 1,030 bytes that hold what is held
+pub record NextAccepted (p : Profile) (m : Machine) : Type 0 where
+  pub resets : startRefusal p (length (m .image)) ≡ Accepted
+  pub feeds : (receive reply : List ℕ) → take (m .state .held) receive ≡ m .held → Roomy receive → Roomy reply
+      → feedRefusal p (m .state) (buffers (m .image) receive reply) ≡ Accepted
+
 -- calls from a start on: nobody but them touches what is lent
 pub record FromStart (p : Profile) (image receive : List ℕ) (turns : List Turn) : Type 0 where
   pub acceptable : Acceptable p
   pub fits : length image ≡ totalOf (areasOf p)
   pub begun : Started
   pub starts : Starts p (length image) zeroState begun
-  pub met : AllMet p (record { image = image; receive = receive; state = begun .state }) turns
+  pub met : AllHonest p (record { image = image; receive = receive; state = begun .state }) turns
 
 -- what the caller keeps after them
 abbrev pub keptSince : {p : Profile} {image receive : List ℕ} {turns : List Turn} → FromStart p image receive turns → Kept
@@ -63,35 +63,24 @@ pub record Demand3 : Type 0 where
   -- the line's record is one thing: what `recordOf` says, and nothing else has its properties
   pub recorded : (p : Profile) → IsRecord p (recordOf p)
   pub recorded-once : (p : Profile) (f : Machine → List Call → List Entry) → IsRecord p f → (m : Machine) (calls : List Call) → f m calls ≡ recordOf p m calls
-
   -- every request in it is a whole packet, or three bytes
   pub requests : (p : Profile) → Acceptable p → (image : List ℕ) (calls : List Call) → OnlyRequests (left p image calls)
-
-  -- over histories: the flash is the replay, and the next call is accepted
-  pub faithful : (p : Profile) → Acceptable p → (image : List ℕ) → length image ≡ totalOf (areasOf p) → (calls : List Call) → Faithful p image calls
-
+  -- over histories: the flash is the starting image with the record replayed, and the next call is accepted
+  pub flash : (p : Profile) → Acceptable p → (image : List ℕ) → length image ≡ totalOf (areasOf p) → (calls : List Call)
+      → reached p image calls .image ≡ replay (areasOf p) image (left p image calls)
+  pub accepted : (p : Profile) → Acceptable p → (image : List ℕ) → length image ≡ totalOf (areasOf p) → (calls : List Call)
+      → NextAccepted p (reached p image calls)
   -- where a delivery is cut makes no difference to the machine and to the record
   pub cut : (p : Profile) (m : Machine) (a b : List ℕ) (more : List Call)
       → (machineAfter p m (deliver (a ++ b) ∷ more) ≡ machineAfter p m (deliver a ∷ deliver b ∷ more))
       × (recordOf p m (deliver (a ++ b) ∷ more) ≡ recordOf p m (deliver a ∷ deliver b ∷ more))
-
   -- over calls: whatever was called, the machine that is kept is that after the history of what was consumed and reset; refused calls are none of it
-  pub calls : (p : Profile) (k : Kept) (turns : List Turn) → AllMet p k turns → machineIn (keptAfter k turns) ≡ machineAfter p (machineIn k) (historyOf turns)
-
+  pub calls : (p : Profile) (k : Kept) (turns : List Turn) → AllHonest p k turns → machineIn (keptAfter k turns) ≡ machineAfter p (machineIn k) (historyOf turns)
   -- so the image that is kept is the starting image with the line's own record replayed
-  pub flash : (p : Profile) (image receive : List ℕ) (turns : List Turn) (f : FromStart p image receive turns)
+  pub kept : (p : Profile) (image receive : List ℕ) (turns : List Turn) (f : FromStart p image receive turns)
       → keptSince f .image ≡ replay (areasOf p) image (left p image (historyOf turns))
-
   -- and with buffers of 1,030 bytes the next feed is accepted
   pub goes-on : (p : Profile) (image receive : List ℕ) (turns : List Turn) (f : FromStart p image receive turns) (reply : List ℕ)
       → Roomy (keptSince f .receive) → Roomy reply → feedRefusal p (keptSince f .state) (lentBy (keptSince f) reply) ≡ Accepted
-
-  -- on running code: a device driven over a script, and the replay of the line's own recording
-  pub driven : (p : Profile) (script : List ℕ) (before after : Lent) (r : Driven) → Drives p script before after r → r .refusal ≡ Accepted
-      → after .image ≡ replay (areasOf p) (before .image) (left p (before .image) (callsOf (recordsOf script)))
-  pub played : (p : Profile) → Acceptable p → (image : List ℕ) (calls : List Call) (after : List ℕ) (r : ℕ)
-      → Played p (written (taped (left p image calls))) image after r
-      → (after ≡ reached p image calls .image) × (r ≡ length (written (taped (left p image calls))))
-
   -- the replay reads only the areas' addresses, requests and replies: units and kinds of areas are not seen
-  pub blind : (areas : List Area) (image : List ℕ) (es : List Entry) → replay areas image es ≡ replay (bared areas) image es
+  pub blind : (areas : List Area) (image : List ℕ) (es : List Entry) → replay areas image es ≡ replay (map (λ a. record { koa = 0; sad = a .sad; ead = a .ead; eau = 0; wau = 0 }) areas) image es

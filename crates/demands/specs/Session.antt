@@ -1,5 +1,4 @@
 -- Calls as a caller makes them, one behind the other, with what each left and answered. Between two calls nobody else touches what was lent.
-use mathlib.Core.Bool.{false}
 use mathlib.Core.List.{List, [], _∷_, _++_}
 use mathlib.Core.Path.{_≡_}
 use Prim.Native.Nat.{ℕ, zero, suc}
@@ -9,7 +8,7 @@ use Rattle.state.specs.declared.State.{State}
 use Rattle.device_calls.specs.declared.Refusal.{Refusal}
 use Rattle.device_calls.specs.declared.Refusal.the-variants.{Accepted, By}
 use Rattle.device_calls.specs.declared.Started.{Started}
-use Rattle.device_calls.specs.Calls.{Lent, buffers, isAccepted, Starts}
+use Rattle.device_calls.specs.Calls.{Lent, buffers, Starts}
 use Rattle.device_steps.specs.Step.{Machine, machineOf}
 use Rattle.device.specs.declared.Fed.{Fed}
 use Rattle.device.specs.Post.{Feeds}
@@ -37,10 +36,10 @@ pub data Turn : Type 0 where
   mistaking : Profile → State → List ℕ → List ℕ → Lent → Fed → Turn
 
 -- the call did what it promises; a mistake was refused
-abbrev pub Met : Profile → Kept → Turn → Type 0
-Met p k (feeding input reply after r) = Feeds p (k .state) input (lentBy k reply) after r
-Met p k (resetting r) = Starts p (length (k .image)) (k .state) r
-Met p k (mistaking other st input reply after r) = Feeds other st input (lentBy k reply) after r × (isAccepted (r .refusal) ≡ false)
+abbrev pub Honest : Profile → Kept → Turn → Type 0
+Honest p k (feeding input reply after r) = Feeds p (k .state) input (lentBy k reply) after r
+Honest p k (resetting r) = Starts p (length (k .image)) (k .state) r
+Honest p k (mistaking other st input reply after r) = Feeds other st input (lentBy k reply) after r × (r .refusal ≡ Accepted → ⊥)
 
 -- what is kept behind it; whose state a mistake gave back is not the caller's
 abbrev pub keptBy : Kept → Turn → Kept
@@ -53,9 +52,9 @@ keptAfter k [] = k
 keptAfter k (t ∷ more) = keptAfter (keptBy k t) more
 
 -- every call did
-unfoldable pub AllMet : Profile → Kept → List Turn → Type 0
-AllMet p k [] = Unit {0}
-AllMet p k (t ∷ more) = Met p k t × AllMet p (keptBy k t) more
+unfoldable pub AllHonest : Profile → Kept → List Turn → Type 0
+AllHonest p k [] = Unit {0}
+AllHonest p k (t ∷ more) = Honest p k t × AllHonest p (keptBy k t) more
 
 -- the history that calls are: the bytes that a feed consumed, and each reset; what was refused is none of it
 abbrev pub resetIn : Refusal → List Call

@@ -4,7 +4,7 @@ use mathlib.Core.List.{List}
 use mathlib.Core.Path.{_≡_, sym, ap, _∙_}
 use Prim.Native.Nat.{ℕ}
 use native.Mathlib.Omega.{arith}
-use lib.ListN.{length, take}
+use lib.ListN.{length}
 use Rattle.verdict.proofs.OneAnswer.{one-answer}
 use Rattle.profile.specs.declared.Profile.{Profile}
 use Rattle.state.specs.declared.State.{State}
@@ -15,7 +15,7 @@ use Rattle.device_calls.specs.declared.Started.{Started}
 use Rattle.device_calls.specs.Calls.{Lent, isAccepted, Starts}
 use Rattle.device_steps.specs.Feed.{Delivery}
 use Rattle.device.specs.declared.Fed.{Fed}
-use Rattle.device.specs.Post.{FedBy, SameOutcome}
+use Rattle.device.specs.Post.{FedBy}
 
 -- starting and resetting
 module _ (p : Profile) (image : List ℕ) where
@@ -25,28 +25,9 @@ module _ (p : Profile) (image : List ℕ) where
   pub reset-once : (st : State) (r r′ : Started) → Starts p (length image) st r → Starts p (length image) st r′ → r ≡ r′
   reset-once st r r′ e f = one-answer (e .is) (f .is)
 
-held-is : {r r′ : Fed} → r ≡ r′ → (rc : List ℕ) → take (r .state .held) rc ≡ take (r′ .state .held) rc
-held-is e rc = ap (λ (x : Fed). take (x .state .held) rc) e
-
--- feeding, for the same state and buffers at entry
+-- of a feed, the receive buffer beyond the held bytes is the one thing that two outcomes may differ in (`feeds-once`, demands): not where it is refused,
+-- nor without input
 module _ (d : Delivery) (input : List ℕ) (st : State) (before after after′ : Lent) (r r′ : Fed) where
-  pub fed-once : (refusal : Refusal) → FedBy refusal d input st before after r → FedBy refusal d input st before after′ r′ → SameOutcome after after′ r r′
-  fed-once Accepted a b =
-      record {
-        result = a .is ∙ sym (b .is);
-        image = a .image ∙ sym (b .image);
-        held = held-is (a .is) (after .receive) ∙ a .held ∙ sym (held-is (b .is) (after′ .receive) ∙ b .held);
-        reply = a .reply ∙ sym (b .reply);
-      }
-  fed-once (By row) a b =
-      let same : after ≡ after′ = a .lent ∙ sym (b .lent) in
-      record {
-        result = a .is ∙ sym (b .is);
-        image = ap (λ (l : Lent). l .image) same;
-        held = held-is (a .is ∙ sym (b .is)) (after .receive) ∙ ap (λ (l : Lent). take (r′ .state .held) (l .receive)) same;
-        reply = ap (λ (l : Lent). l .reply) same;
-      }
-
   -- a refused feed fixes the whole receive buffer
   pub refused-received : (refusal : Refusal) → isAccepted refusal ≡ false → FedBy refusal d input st before after r → FedBy refusal d input st before after′ r′
       → after .receive ≡ after′ .receive

@@ -32,13 +32,6 @@ abbrev pub FedBy : Refusal → Delivery → List ℕ → State → Lent → Lent
 FedBy Accepted d input st before after r = Ran d input before after r
 FedBy (By row) d input st before after r = Unfed row st before after r
 
--- two outcomes that a caller cannot tell apart: all is the same but the received bytes beyond the held ones
-pub record SameOutcome (after after′ : Lent) (r r′ : Fed) : Type 0 where
-  pub result : r ≡ r′
-  pub image : after .image ≡ after′ .image
-  pub held : take (r .state .held) (after .receive) ≡ take (r′ .state .held) (after′ .receive)
-  pub reply : after .reply ≡ after′ .reply
-
 -- what feeding promises: the paper's number of the first row that applies, 0 where none does, and all that it leaves
 pub record Feeds (p : Profile) (st : State) (input : List ℕ) (before after : Lent) (r : Fed) : Type 0 where
   pub number : numberOf (r .refusal) ≡ numberOf (feedRefusal p st before)

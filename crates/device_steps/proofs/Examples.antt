@@ -17,7 +17,7 @@ use Rattle.state.specs.declared.Pulse.the-variants.{Zero}
 use Rattle.state.specs.declared.Stage.{Stage}
 use Rattle.state.specs.declared.Stage.the-variants.{Setting, Authentication, Command}
 use Rattle.state.specs.State.{freshState}
-use Rattle.packet_fields.specs.Fields.{comOf, fourAt}
+use Rattle.packet_fields.specs.Fields.{comIn, comOf, fourAt}
 use Rattle.check_command.specs.Commands.{formChecks, areaNumberChecks, ownChecks, knownChecks, commandChecks}
 use Rattle.answer.specs.Answer.{moved}
 use Rattle.answer_command.specs.Grants.{grantOf, decided, answerCommand}
@@ -85,7 +85,7 @@ table =
     ∷ []
 
 pub examples-hold : (image : List ℕ) → map (λ (l : Line). replies (deviceIn (l .stage) image) (l .sent)) table ≡ map (λ (l : Line). l .back) table
-unfolding feedOf stepOf stepIn heard wakeOf answerCommand decided grantOf commandChecks knownChecks formChecks ownChecks areaNumberChecks comOf fourAt freshState
+unfolding feedOf stepOf stepIn heard wakeOf answerCommand decided grantOf commandChecks knownChecks formChecks ownChecks areaNumberChecks comOf comIn fourAt freshState
     rangeChecks endChecks purposeChecks changeChecks unitChecks windowChecks limited entries inside placeFrom firstFault
     progressOf measuredOf lengthOf permitted endingChecks sumOf lack frame number numberAt bytesOf signatureMessage
 examples-hold image = refl

@@ -1,6 +1,6 @@
 -- The numbers of commands, the bytes between COM and SUM and where they stand, a COM and a number that are there. Assumes nothing.
 use mathlib.Core.Bool.{Bool, true, false, cond}
-use mathlib.Core.List.{List, []}
+use mathlib.Core.List.{List, [], _∷_}
 use mathlib.Core.Path.{_≡_, refl, sym, ap, _∙_}
 use Prim.Native.Nat.{ℕ, _+_, _-_, _≤_, _<_}
 use native.Mathlib.Omega.{arith}
@@ -12,20 +12,20 @@ use Rattle.numbers.proofs.Part.{part-there}
 use Rattle.numbers.proofs.There.{entry-there, field-there}
 use Rattle.packet_fields.specs.declared.Com.{Com}
 use Rattle.packet_fields.specs.declared.Com.the-variants.{Inquiry, Erase, Write, Read, Authenticate, Baud, Signature, Area, Unknown}
-use Rattle.packet_fields.specs.Fields.{comNumber, comOf, codeAt, infoCount, infoOf, infoAt, valueOf}
+use Rattle.packet_fields.specs.Fields.{comNumber, comIn, comOf, codeAt, infoCount, infoOf, infoAt, valueOf}
 
 -- a number that is none of the eight
 pub com-unknown : (n : ℕ)
     → (n ≡ 0x00 → ⊥) → (n ≡ 0x12 → ⊥) → (n ≡ 0x13 → ⊥) → (n ≡ 0x15 → ⊥)
     → (n ≡ 0x30 → ⊥) → (n ≡ 0x34 → ⊥) → (n ≡ 0x3A → ⊥) → (n ≡ 0x3B → ⊥)
     → comOf n ≡ Unknown
-unfolding comOf
+unfolding comOf comIn
 com-unknown n a b c d e f g h =
     simp (ne-eqb n 0x00 a, ne-eqb n 0x12 b, ne-eqb n 0x13 c, ne-eqb n 0x15 d, ne-eqb n 0x30 e, ne-eqb n 0x34 f, ne-eqb n 0x3A g, ne-eqb n 0x3B h)
 
 -- each command is the one of its number, and the number of no command belongs to none
 pub com-back : (cmd : Com) → comOf (comNumber cmd) ≡ cmd
-unfolding comOf
+unfolding comOf comIn
 com-back Inquiry = refl
 com-back Erase = refl
 com-back Write = refl
@@ -41,25 +41,19 @@ pub number-once : (cmd other : Com) → comNumber cmd ≡ comNumber other → cm
 number-once cmd other e = sym (com-back cmd) ∙ ap comOf e ∙ com-back other
 
 -- a number that is a command's is the number of that command
-numbered : (n : ℕ) (m : Com) (rest : Com) → (eqb n (comNumber m) ≡ false → (rest ≡ Unknown → ⊥) → n ≡ comNumber rest)
-    → (cond (eqb n (comNumber m)) m rest ≡ Unknown → ⊥) → n ≡ comNumber (cond (eqb n (comNumber m)) m rest)
-numbered n m rest later known = by (eqb n (comNumber m)) refl known
+number-in : (cmds : List Com) (n : ℕ) → (comIn cmds n ≡ Unknown → ⊥) → n ≡ comNumber (comIn cmds n)
+unfolding comIn
+number-in [] n known = absurd (known refl)
+number-in (cmd ∷ more) n known = by (eqb n (comNumber cmd)) refl (number-in more n) known
   where
-    by : (t : Bool) → eqb n (comNumber m) ≡ t → (cond t m rest ≡ Unknown → ⊥) → n ≡ comNumber (cond t m rest)
-    by true e k = eqb-true n (comNumber m) e
-    by false e k = later e k
+    by : (t : Bool) → eqb n (comNumber cmd) ≡ t → ((comIn more n ≡ Unknown → ⊥) → n ≡ comNumber (comIn more n)) → (cond t cmd (comIn more n) ≡ Unknown → ⊥)
+        → n ≡ comNumber (cond t cmd (comIn more n))
+    by true e later k = eqb-true n (comNumber cmd) e
+    by false e later k = later k
 
 pub number-back : (n : ℕ) → (comOf n ≡ Unknown → ⊥) → n ≡ comNumber (comOf n)
 unfolding comOf
-number-back n =
-    numbered n Inquiry _ (λ _.
-    numbered n Erase _ (λ _.
-    numbered n Write _ (λ _.
-    numbered n Read _ (λ _.
-    numbered n Authenticate _ (λ _.
-    numbered n Baud _ (λ _.
-    numbered n Signature _ (λ _.
-    numbered n Area _ (λ _ known. absurd (known refl)))))))))
+number-back n known = number-in (Inquiry ∷ Erase ∷ Write ∷ Read ∷ Authenticate ∷ Baud ∷ Signature ∷ Area ∷ []) n known
 
 -- a packet with no room between COM and SUM, and one with room
 pub info-none : (q : List ℕ) → length q < 6 → [] ≡ infoOf q

@@ -22,18 +22,13 @@ comNumber Signature = 0x3A
 comNumber Area = 0x3B
 comNumber Unknown = 0x100
 
--- the command that has a number
+-- the command that has a number, of those in a list
+unfoldable pub comIn : List Com → ℕ → Com
+comIn [] n = Unknown
+comIn (cmd ∷ more) n = cond (eqb n (comNumber cmd)) cmd (comIn more n)
+
 unfoldable pub comOf : ℕ → Com
-comOf n =
-    cond (eqb n (comNumber Inquiry)) Inquiry
-    (cond (eqb n (comNumber Erase)) Erase
-    (cond (eqb n (comNumber Write)) Write
-    (cond (eqb n (comNumber Read)) Read
-    (cond (eqb n (comNumber Authenticate)) Authenticate
-    (cond (eqb n (comNumber Baud)) Baud
-    (cond (eqb n (comNumber Signature)) Signature
-    (cond (eqb n (comNumber Area)) Area
-    Unknown)))))))
+comOf n = comIn (Inquiry ∷ Erase ∷ Write ∷ Read ∷ Authenticate ∷ Baud ∷ Signature ∷ Area ∷ []) n
 
 -- COM or RES of a packet, and the bytes between it and SUM; the 0 for none never decides: device_steps, proofs/Defaults, `packet-there`
 abbrev pub codeAt : List ℕ → ℕ

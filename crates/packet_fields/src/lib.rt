@@ -20,12 +20,19 @@ pub enum Com {
 
 // Their numbers: COM of a request, RES of what answers it.
 pub const INQUIRY: u8 = 0x00;
+
 pub const ERASE: u8 = 0x12;
+
 pub const WRITE: u8 = 0x13;
+
 pub const READ: u8 = 0x15;
+
 pub const AUTHENTICATE: u8 = 0x30;
+
 pub const BAUD: u8 = 0x34;
+
 pub const SIGNATURE: u8 = 0x3A;
+
 pub const AREA: u8 = 0x3B;
 
 // The command of a number.

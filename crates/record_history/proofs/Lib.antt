@@ -1,6 +1,6 @@
 pub mod SameAct
 pub mod Cut
-pub mod Demand3
+pub mod Lasting
 pub mod Recorded
 pub mod Replayed
 pub mod Taped

@@ -18,7 +18,7 @@ use Rattle.device_steps.specs.Records.{heardWith, completes, refuses}
 use Rattle.device_steps.proofs.Kept.{fresh-fits, still-fits, held-short}
 use Rattle.device_steps.proofs.Replies.{short}
 use Rattle.record_history.specs.History.{Call, deliver, again, freshOf, hearing, machineAfter, entriesAt, heardRecord, recordOf}
-use Rattle.record_history.proofs.Demand3.{hearing-fits}
+use Rattle.record_history.proofs.Lasting.{hearing-fits}
 use Rattle.record_history.proofs.Replayed.{replayed}
 
 -- a request and a reply that are no longer than a longest packet

@@ -11,7 +11,7 @@ returns c =
     let profile-in = c .before .before .before .before .before .profile-in in
     let start = c .before .before .before .start in
     let a = c .before .before .before .before .before .before .before .before .before .args in
-    left (a .profile .now) (a .recording .now) (a .image .now) (profile-in .result) (profile-in .ensures) (start .result) (start .ensures)
+    left (a .profile .now) (a .recording .now) (a .image .now) (profile-in .result) (profile-in .ensures) (start .result) (start .ensures .is)
     (sym (c .before .before .is-accepted .ensures) ∙ not-true _ (c .before .if1 .taken)) (c .number .result) (c .number .ensures)
 
 returns-2 : tie.Need-returns-2
@@ -20,7 +20,7 @@ returns-2 c =
     let start = c .before .before .before .before .before .before .start in
     let play = c .before .before .play in
     let a = c .before .before .before .before .before .before .before .before .before .before .before .before .args in
-    replayed (a .profile .now) (a .recording .now) (a .image .now) (profile-in .result) (profile-in .ensures) (start .result) (start .ensures)
+    replayed (a .profile .now) (a .recording .now) (a .image .now) (profile-in .result) (profile-in .ensures) (start .result) (start .ensures .is)
     (sym (c .before .before .before .before .before .is-accepted .ensures) ∙ not-false _ (c .before .before .before .before .if1 .left)) (play .last .0)
     (play .result) (play .ensures)
 

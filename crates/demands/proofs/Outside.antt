@@ -1,0 +1,98 @@
+-- The demands for callers in C, proved. Assumes nothing.
+use mathlib.Core.List.{List, _++_}
+use mathlib.Core.Option.{Option, none, some}
+use mathlib.Core.Path.{_≡_, refl, sym, ap, subst, _∙_}
+use Prim.Native.Nat.{ℕ}
+use lib.ListN.{length}
+use Rattle.verdict.specs.Check.{Check, firstFault}
+use Rattle.profile.specs.declared.Profile.{Profile}
+use Rattle.profile_bytes.specs.Profile.{profileIn}
+use Rattle.state.specs.declared.State.{State}
+use Rattle.state.specs.State.{freshState, zeroState}
+use Rattle.state_bytes.specs.State.{stateIn, stateOver}
+use Rattle.device_calls.specs.declared.Row.{Row}
+use Rattle.device_calls.specs.declared.Refusal.{Refusal}
+use Rattle.device_calls.specs.declared.Refusal.the-variants.{Accepted, By}
+use Rattle.device_calls.specs.Calls.{buffers, rowNumber, numberOf, startRows, feedRows, refusalOf, startRefusal, startedAt}
+use Rattle.device_steps.specs.Feed.{Delivery}
+use Rattle.interface.specs.Calls.{LentBytes, startingRows, stateRows, feedingRows, startingRefusal, feedingRefusal}
+use Rattle.interface.specs.Post.{Numbers, StartedBytes, ResetBytes, resetOver, deliveryOf, RanBytes, UnfedBytes, FedBytes, FeedsBytes}
+use Rattle.interface_replay.specs.Post.{imageBy, readBy, Replayed}
+use Rattle.demands.specs.Outside.{NumberedBy, Outside}
+use Rattle.demands.proofs.Rows.{by-rows, number-once}
+
+-- a number tells its refusal
+zero-accepts : (refusal : Refusal) → numberOf refusal ≡ 0 → refusal ≡ Accepted
+zero-accepts refusal e = number-once refusal Accepted e
+
+numbered-by : (rows : List (Check Row)) {n : ℕ} → n ≡ numberOf (refusalOf (firstFault rows)) → NumberedBy rows n
+numbered-by rows e =
+    let x : Refusal = refusalOf (firstFault rows) in
+    let b = by-rows rows {refusal = refusalOf (firstFault rows)} refl in
+    record {
+      accepted = (λ h. b .accepted .0 (zero-accepts x (sym e ∙ h)), λ n. e ∙ ap numberOf (b .accepted .1 n));
+      refused = λ row. (λ h. b .refused row .0 (number-once x (By row) (sym e ∙ h)), λ f. e ∙ ap numberOf (b .refused row .1 f));
+    }
+
+-- what goes by a refusal, where it is accepted and where it is not
+module _ {A : Type 0} (at : Refusal → A) (refusal : Refusal) {n : ℕ} (e : n ≡ numberOf refusal) where
+  where-accepted : n ≡ 0 → at refusal ≡ at Accepted
+  where-accepted z = ap at (zero-accepts refusal (sym e ∙ z))
+
+  where-refused : (a : A) → ((row : Row) → at (By row) ≡ a) → (n ≡ 0 → ⊥) → at refusal ≡ a
+  where-refused a same z = by refusal e
+    where
+      by : (x : Refusal) → n ≡ numberOf x → at x ≡ a
+      by Accepted k = absurd (z k)
+      by (By row) k = same row
+
+-- feeding
+module _ (profile input : List ℕ) (before after : LentBytes) (r : Numbers) (f : FeedsBytes profile input before after r) where
+  abbrev d : Delivery
+  d = deliveryOf profile before input
+
+  fed-number : (x : Refusal) → FedBytes x d input before after r → r .number ≡ numberOf x
+  fed-number Accepted g = ap (λ (k : Numbers). k .number) (g .is)
+  fed-number (By row) g = ap (λ (k : Numbers). k .number) (g .is)
+
+  number-is : r .number ≡ numberOf (feedingRefusal profile before)
+  number-is = fed-number (feedingRefusal profile before) f
+
+  fed-accepted : r .number ≡ 0 → RanBytes d input before after r
+  fed-accepted z = subst (λ (x : Refusal). FedBytes x d input before after r) (zero-accepts (feedingRefusal profile before) (sym number-is ∙ z)) f
+
+  fed-refused : (row : Row) → r .number ≡ rowNumber row → UnfedBytes row before after r
+  fed-refused row z = subst (λ (x : Refusal). FedBytes x d input before after r) (number-once (feedingRefusal profile before) (By row) (sym number-is ∙ z)) f
+
+same-rows : (profile : List ℕ) (l : LentBytes) (st : State) → stateIn (l .state) ≡ some st
+    → feedingRows profile l ≡ feedRows (profileIn profile) st (buffers (l .image) (l .receive) (l .reply))
+unfolding feedingRows feedRows
+same-rows profile l st e =
+    ap (λ (x : Option State). startRows (profileIn profile) (length (l .image)) ++ stateRows (profileIn profile) x (l .receive) (length (l .reply))) e
+
+pub outside : Outside
+outside =
+    record {
+      start = λ profile image before after r s. numbered-by _ (s .number);
+      start-accepted = λ profile image before after r s z.
+          s .state ∙ where-accepted (λ (x : Refusal). stateOver (startedAt x (profileIn profile) zeroState) before) _ (s .number) z;
+      start-refused = λ profile image before after r s z.
+          s .state ∙ where-refused (λ (x : Refusal). stateOver (startedAt x (profileIn profile) zeroState) before) _ (s .number) _ (λ row. refl) z;
+      reset = λ profile image before after r s. numbered-by _ (s .number);
+      reset-accepted = λ profile image before after r s z. s .state ∙ where-accepted (λ (x : Refusal). resetOver x (profileIn profile) before) _ (s .number) z;
+      reset-refused = λ profile image before after r s z.
+          s .state ∙ where-refused (λ (x : Refusal). resetOver x (profileIn profile) before) _ (s .number) _ (λ row. refl) z;
+      feed = λ profile input before after r f. numbered-by _ (number-is profile input before after r f);
+      feed-accepted = fed-accepted;
+      feed-refused = fed-refused;
+      same-rows = same-rows;
+      replays = λ profile recording before after r read s. numbered-by _ (s .number);
+      replay-accepted = λ profile recording before after r read s z. (
+        s .image ∙ where-accepted (λ (x : Refusal). imageBy x profile recording before) _ (s .number) z,
+        s .count ∙ where-accepted (λ (x : Refusal). readBy x recording) _ (s .number) z,
+      );
+      replay-refused = λ profile recording before after r read s z. (
+        s .image ∙ where-refused (λ (x : Refusal). imageBy x profile recording before) _ (s .number) _ (λ row. refl) z,
+        s .count ∙ where-refused (λ (x : Refusal). readBy x recording) _ (s .number) _ (λ row. refl) z,
+      );
+    }

@@ -1,0 +1,58 @@
+-- The demands for callers in C: the same calls on bytes, with numbers for answers.
+use mathlib.Core.List.{List}
+use mathlib.Core.Logic.{_↔_}
+use mathlib.Core.Option.{some}
+use mathlib.Core.Path.{_≡_}
+use Prim.Native.Nat.{ℕ}
+use lib.ListN.{length}
+use Rattle.verdict.specs.Check.{Check, NoneApplies, IsFirst}
+use Rattle.profile.specs.Areas.{areasOf}
+use Rattle.profile_bytes.specs.Profile.{profileIn}
+use Rattle.state.specs.declared.State.{State}
+use Rattle.state.specs.State.{freshState, zeroState}
+use Rattle.state_bytes.specs.State.{stateIn, stateBytes, stateOver}
+use Rattle.recording.specs.Recording.{recordsOf, readable}
+use Rattle.record_exchange.specs.Line.{exchangesOf}
+use Rattle.record_replay.specs.Replay.{replay}
+use Rattle.device_calls.specs.declared.Row.{Row}
+use Rattle.device_calls.specs.Calls.{buffers, rowNumber, startRows, feedRows}
+use Rattle.interface.specs.Calls.{LentBytes, startingRows, feedingRows}
+use Rattle.interface.specs.Post.{Numbers, StartedBytes, ResetBytes, deliveryOf, RanBytes, UnfedBytes, FeedsBytes}
+use Rattle.interface_replay.specs.Post.{Replayed}
+
+-- a number is 0 exactly when no row applies, and a row's exactly when that row is the first that applies
+pub record NumberedBy (rows : List (Check Row)) (n : ℕ) : Type 0 where
+  pub accepted : (n ≡ 0) ↔ NoneApplies rows
+  pub refused : (row : Row) → (n ≡ rowNumber row) ↔ IsFirst rows row
+
+pub record Outside : Type 0 where
+  -- starting writes the fresh state, or refused the zero state, where there is room for a state
+  pub start : (profile image before after : List ℕ) (r : ℕ) → StartedBytes profile (length image) before after r
+      → NumberedBy (startingRows profile (length image) (length before)) r
+  pub start-accepted : (profile image before after : List ℕ) (r : ℕ) → StartedBytes profile (length image) before after r → r ≡ 0
+      → after ≡ stateOver (freshState (profileIn profile)) before
+  pub start-refused : (profile image before after : List ℕ) (r : ℕ) → StartedBytes profile (length image) before after r → (r ≡ 0 → ⊥)
+      → after ≡ stateOver zeroState before
+  -- resetting writes the fresh state, or refused nothing
+  pub reset : (profile image before after : List ℕ) (r : ℕ) → ResetBytes profile (length image) before after r
+      → NumberedBy (startingRows profile (length image) (length before)) r
+  pub reset-accepted : (profile image before after : List ℕ) (r : ℕ) → ResetBytes profile (length image) before after r → r ≡ 0
+      → after ≡ stateBytes (freshState (profileIn profile))
+  pub reset-refused : (profile image before after : List ℕ) (r : ℕ) → ResetBytes profile (length image) before after r → (r ≡ 0 → ⊥) → after ≡ before
+  -- feeding leaves what is defined, or refused two zeros and every byte as it was
+  pub feed : (profile input : List ℕ) (before after : LentBytes) (r : Numbers) → FeedsBytes profile input before after r
+      → NumberedBy (feedingRows profile before) (r .number)
+  pub feed-accepted : (profile input : List ℕ) (before after : LentBytes) (r : Numbers) → FeedsBytes profile input before after r → r .number ≡ 0
+      → RanBytes (deliveryOf profile before input) input before after r
+  pub feed-refused : (profile input : List ℕ) (before after : LentBytes) (r : Numbers) → FeedsBytes profile input before after r
+      → (row : Row) → r .number ≡ rowNumber row → UnfedBytes row before after r
+  -- where the bytes are a state, its rows are those of the device
+  pub same-rows : (profile : List ℕ) (l : LentBytes) (st : State) → stateIn (l .state) ≡ some st
+      → feedingRows profile l ≡ feedRows (profileIn profile) st (buffers (l .image) (l .receive) (l .reply))
+  -- replaying leaves the replay of the recording's exchanges, or refused nothing
+  pub replays : (profile recording before after : List ℕ) (r read : ℕ) → Replayed profile recording before after r read
+      → NumberedBy (startRows (profileIn profile) (length before)) r
+  pub replay-accepted : (profile recording before after : List ℕ) (r read : ℕ) → Replayed profile recording before after r read → r ≡ 0
+      → (after ≡ replay (areasOf (profileIn profile)) before (exchangesOf (recordsOf recording))) × (read ≡ readable recording)
+  pub replay-refused : (profile recording before after : List ℕ) (r read : ℕ) → Replayed profile recording before after r read → (r ≡ 0 → ⊥)
+      → (after ≡ before) × (read ≡ 0)
