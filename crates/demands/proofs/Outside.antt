@@ -5,11 +5,14 @@ use mathlib.Core.Path.{_≡_, refl, sym, ap, subst, _∙_}
 use Prim.Native.Nat.{ℕ}
 use lib.ListN.{length}
 use Rattle.verdict.specs.Check.{Check, firstFault}
-use Rattle.profile.specs.declared.Profile.{Profile}
+use Rattle.profile.specs.Areas.{areasOf}
 use Rattle.profile_bytes.specs.Profile.{profileIn}
 use Rattle.state.specs.declared.State.{State}
 use Rattle.state.specs.State.{freshState, zeroState}
-use Rattle.state_bytes.specs.State.{stateIn, stateOver}
+use Rattle.state_bytes.specs.State.{stateIn, stateBytes, stateOver}
+use Rattle.recording.specs.Recording.{recordsOf, readable}
+use Rattle.record_exchange.specs.Line.{exchangesOf}
+use Rattle.record_replay.specs.Replay.{replay}
 use Rattle.device_calls.specs.declared.Row.{Row}
 use Rattle.device_calls.specs.declared.Refusal.{Refusal}
 use Rattle.device_calls.specs.declared.Refusal.the-variants.{Accepted, By}
@@ -70,29 +73,61 @@ unfolding feedingRows feedRows
 same-rows profile l st e =
     ap (λ (x : Option State). startRows (profileIn profile) (length (l .image)) ++ stateRows (profileIn profile) x (l .receive) (length (l .reply))) e
 
+-- starting and resetting
+module _ (profile image before after : List ℕ) (r : ℕ) where
+  abbrev begins : Refusal
+  begins = startingRefusal profile (length image) (length before)
+
+  abbrev started : Refusal → List ℕ
+  started x = stateOver (startedAt x (profileIn profile) zeroState) before
+
+  start-accepted : StartedBytes profile (length image) before after r → r ≡ 0 → after ≡ stateOver (freshState (profileIn profile)) before
+  start-accepted s z = s .state ∙ where-accepted started begins (s .number) z
+
+  start-refused : StartedBytes profile (length image) before after r → (r ≡ 0 → ⊥) → after ≡ stateOver zeroState before
+  start-refused s z = s .state ∙ where-refused started begins (s .number) (stateOver zeroState before) (λ row. refl) z
+
+  abbrev over : Refusal → List ℕ
+  over x = resetOver x (profileIn profile) before
+
+  reset-accepted : ResetBytes profile (length image) before after r → r ≡ 0 → after ≡ stateBytes (freshState (profileIn profile))
+  reset-accepted s z = s .state ∙ where-accepted over begins (s .number) z
+
+  reset-refused : ResetBytes profile (length image) before after r → (r ≡ 0 → ⊥) → after ≡ before
+  reset-refused s z = s .state ∙ where-refused over begins (s .number) before (λ row. refl) z
+
+-- replaying
+module _ (profile recording before after : List ℕ) (r read : ℕ) (s : Replayed profile recording before after r read) where
+  abbrev begun : Refusal
+  begun = startRefusal (profileIn profile) (length before)
+
+  abbrev image : Refusal → List ℕ
+  image x = imageBy x profile recording before
+
+  abbrev count : Refusal → ℕ
+  count x = readBy x recording
+
+  replay-accepted : r ≡ 0 → (after ≡ replay (areasOf (profileIn profile)) before (exchangesOf (recordsOf recording))) × (read ≡ readable recording)
+  replay-accepted z = (s .image ∙ where-accepted image begun (s .number) z, s .count ∙ where-accepted count begun (s .number) z)
+
+  replay-refused : (r ≡ 0 → ⊥) → (after ≡ before) × (read ≡ 0)
+  replay-refused z =
+      (s .image ∙ where-refused image begun (s .number) before (λ row. refl) z, s .count ∙ where-refused count begun (s .number) 0 (λ row. refl) z)
+
 pub outside : Outside
 outside =
     record {
       start = λ profile image before after r s. numbered-by _ (s .number);
-      start-accepted = λ profile image before after r s z.
-          s .state ∙ where-accepted (λ (x : Refusal). stateOver (startedAt x (profileIn profile) zeroState) before) _ (s .number) z;
-      start-refused = λ profile image before after r s z.
-          s .state ∙ where-refused (λ (x : Refusal). stateOver (startedAt x (profileIn profile) zeroState) before) _ (s .number) _ (λ row. refl) z;
+      start-accepted = start-accepted;
+      start-refused = start-refused;
       reset = λ profile image before after r s. numbered-by _ (s .number);
-      reset-accepted = λ profile image before after r s z. s .state ∙ where-accepted (λ (x : Refusal). resetOver x (profileIn profile) before) _ (s .number) z;
-      reset-refused = λ profile image before after r s z.
-          s .state ∙ where-refused (λ (x : Refusal). resetOver x (profileIn profile) before) _ (s .number) _ (λ row. refl) z;
+      reset-accepted = reset-accepted;
+      reset-refused = reset-refused;
       feed = λ profile input before after r f. numbered-by _ (number-is profile input before after r f);
       feed-accepted = fed-accepted;
       feed-refused = fed-refused;
       same-rows = same-rows;
       replays = λ profile recording before after r read s. numbered-by _ (s .number);
-      replay-accepted = λ profile recording before after r read s z. (
-        s .image ∙ where-accepted (λ (x : Refusal). imageBy x profile recording before) _ (s .number) z,
-        s .count ∙ where-accepted (λ (x : Refusal). readBy x recording) _ (s .number) z,
-      );
-      replay-refused = λ profile recording before after r read s z. (
-        s .image ∙ where-refused (λ (x : Refusal). imageBy x profile recording before) _ (s .number) _ (λ row. refl) z,
-        s .count ∙ where-refused (λ (x : Refusal). readBy x recording) _ (s .number) _ (λ row. refl) z,
-      );
+      replay-accepted = replay-accepted;
+      replay-refused = replay-refused;
     }

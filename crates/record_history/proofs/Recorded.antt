@@ -2,24 +2,22 @@
 -- waking up. Assumes nothing.
 use mathlib.Core.Bool.{Bool, true, false, _||_, cond}
 use mathlib.Core.List.{List, [], _∷_, _++_, append-assoc, append-nil}
-use mathlib.Core.Logic.{inl, inr, ⊎-elim}
+use mathlib.Core.Logic.{_⊎_, inl, inr, ⊎-elim}
 use mathlib.Core.Path.{_≡_, refl, sym, ap, subst, _∙_}
 use Prim.Native.Nat.{ℕ, _≤_, _<_}
 use native.Mathlib.Omega.{arith}
 use lib.ListN.{length}
 use Rattle.profile.specs.declared.Profile.{Profile}
-use Rattle.packet.specs.Packet.{isComplete}
 use Rattle.packet.proofs.Laws.{impossible}
 use Rattle.state.specs.declared.Pulse.{Pulse}
-use Rattle.state.specs.declared.Stage.{Stage}
 use Rattle.state.specs.declared.Stage.the-variants.{Setting}
-use Rattle.state.specs.Awaits.{awaitsOf}
 use Rattle.record_exchange.specs.Line.{Entry, exchange, restart}
 use Rattle.device_steps.specs.Step.{Machine, stepOf}
 use Rattle.device_steps.specs.Feed.{Delivery, feedOf}
-use Rattle.device_steps.specs.Records.{isUnfit, progressIn, heardWith, completes, refuses, Brings}
+use Rattle.device_steps.specs.Records.{heardWith, completes, refuses, Brings}
+use Rattle.device_steps.proofs.Defaults.{setting-completes-none, setting-refuses-none}
 use Rattle.device_steps.proofs.Delivered.{by-reply}
-use Rattle.device_steps.proofs.Replies.{IsPacket, packet-least, unbrought, packet-step}
+use Rattle.device_steps.proofs.Replies.{IsPacket, packet-least, unbrought, brings-or, packet-step}
 use Rattle.record_history.specs.History.{Call, deliver, again, freshOf, hearing, machineAfter, entriesAt, heardRecord, recordOf}
 
 -- an entry that a byte adds: all that is held and the byte, with the reply that the byte brings, which is a packet
@@ -29,43 +27,56 @@ pub record Noted (p : Profile) (m : Machine) (b : ℕ) (q reply : List ℕ) : Ty
   pub packet : IsPacket reply
   pub some : 0 < length reply
 
-module _ (p : Profile) (m : Machine) (b : ℕ) where
-  asked : (s t : Bool) → completes m b ≡ s → refuses m b ≡ t → (s || t) ≡ true → Brings m b
-  asked true t c f h = inl c
-  asked false true c f h = inr f
-  asked false false c f h = impossible (cc)
-
-  -- a byte that adds an entry is answered with a packet
-  recorded-packet : (completes m b || refuses m b) ≡ true → IsPacket (stepOf p m b .reply)
-  recorded-packet h = packet-step p m b (asked (completes m b) (refuses m b) refl refl h)
-
-  -- and a byte that is answered with none adds none
-  pub unanswered-entry : length (stepOf p m b .reply) ≡ 0 → entriesAt p m b ≡ []
-  unfolding entriesAt
-  unanswered-entry e = by (completes m b || refuses m b) refl
+-- what is picked by whether a byte brings a request
+module _ (m : Machine) (b : ℕ) (x y : List Entry) where
+  picks-asked : Brings m b → cond (completes m b || refuses m b) x y ≡ x
+  picks-asked h = by (completes m b) (refuses m b) h
     where
-      by : (t : Bool) → (completes m b || refuses m b) ≡ t → cond t (exchange (heardWith m b) (stepOf p m b .reply) ∷ []) [] ≡ []
-      by true h = let k : 6 ≤ length (stepOf p m b .reply) = packet-least (recorded-packet h) in absurd (omega arith)
-      by false h = refl
+      by : (s t : Bool) → (s ≡ true) ⊎ (t ≡ true) → cond (s || t) x y ≡ x
+      by true t k = refl
+      by false true k = refl
+      by false false k = absurd (⊎-elim (λ e. impossible (cc)) (λ e. impossible (cc)) k)
+
+  picks-unasked : (Brings m b → ⊥) → cond (completes m b || refuses m b) x y ≡ y
+  picks-unasked n = let u = unbrought m b n in rw (u .0, u .1) refl
+
+-- an entry is left exactly by a byte that brings a request: what is held and the byte, with the reply
+module _ (p : Profile) (m : Machine) (b : ℕ) where
+  pub entry-asked : Brings m b → entriesAt p m b ≡ exchange (heardWith m b) (stepOf p m b .reply) ∷ []
+  unfolding entriesAt
+  entry-asked h = picks-asked m b (exchange (heardWith m b) (stepOf p m b .reply) ∷ []) [] h
+
+  pub entry-unasked : (Brings m b → ⊥) → entriesAt p m b ≡ []
+  unfolding entriesAt
+  entry-unasked n = picks-unasked m b (exchange (heardWith m b) (stepOf p m b .reply) ∷ []) [] n
+
+  -- so it is one of the two
+  pub entries-are : entriesAt p m b ≡ cond (completes m b || refuses m b) (exchange (heardWith m b) (stepOf p m b .reply) ∷ []) []
+  entries-are =
+      let x : List Entry = exchange (heardWith m b) (stepOf p m b .reply) ∷ [] in
+      ⊎-elim (λ h. entry-asked h ∙ sym (picks-asked m b x [] h)) (λ n. entry-unasked n ∙ sym (picks-unasked m b x [] n)) (brings-or m b)
+
+  -- a byte that is answered with no packet adds none
+  pub unanswered-entry : length (stepOf p m b .reply) ≡ 0 → entriesAt p m b ≡ []
+  unanswered-entry e = entry-unasked (λ h. let k : 6 ≤ length (stepOf p m b .reply) = packet-least (packet-step p m b h) in omega arith)
 
   -- waking up, with its answers, is in no record
   pub waking-unrecorded : (u : Pulse) → m .state .stage ≡ Setting u → entriesAt p m b ≡ []
-  unfolding entriesAt completes refuses progressIn
-  waking-unrecorded u e =
-      let q : List ℕ = heardWith m b in
-      ap (λ (s : Stage). cond (isComplete (progressIn (awaitsOf s) q) || isUnfit (progressIn (awaitsOf s) q)) (exchange q (stepOf p m b .reply) ∷ []) []) e
+  waking-unrecorded u e = entry-unasked (λ h. ⊎-elim (setting-completes-none m b u e) (setting-refuses-none m b u e) h)
 
+  -- what stands in an entry
   pub entry-answered : (q reply : List ℕ) → entriesAt p m b ≡ exchange q reply ∷ [] → Noted p m b q reply
-  unfolding entriesAt
-  entry-answered q reply e = by (completes m b || refuses m b) refl e
+  entry-answered q reply e = ⊎-elim there none (brings-or m b)
     where
-      by : (t : Bool) → (completes m b || refuses m b) ≡ t
-          → cond t (exchange (heardWith m b) (stepOf p m b .reply) ∷ []) [] ≡ exchange q reply ∷ [] → Noted p m b q reply
-      by true h k =
+      there : Brings m b → Noted p m b q reply
+      there h =
+          let same : exchange (heardWith m b) (stepOf p m b .reply) ∷ [] ≡ exchange q reply ∷ [] = sym (entry-asked h) ∙ e in
           let r : reply ≡ stepOf p m b .reply = cc in
-          let packet : IsPacket reply = subst IsPacket (sym r) (recorded-packet h) in
+          let packet : IsPacket reply = subst IsPacket (sym r) (packet-step p m b h) in
           record { request = cc; answer = r; packet = packet; some = omega (arith, packet-least packet) }
-      by false h k = impossible (cc)
+
+      none : (Brings m b → ⊥) → Noted p m b q reply
+      none n = let z : [] ≡ exchange q reply ∷ [] = sym (entry-unasked n) ∙ e in impossible (cc)
 
 -- a delivery without an answer leaves no entry: a packet that is cut, noise, waking up
 pub unanswered-unrecorded : (p : Profile) (m : Machine) (bs : List ℕ) → length (feedOf p m bs .reply) ≡ 0 → heardRecord p m bs ≡ []
@@ -75,22 +86,6 @@ unanswered-unrecorded p m (b ∷ bs) =
     by-reply p m b bs (λ (d : Delivery). length (d .reply) ≡ 0 → heardRecord p m (b ∷ bs) ≡ [])
     (λ quiet e. rw (unanswered-entry p m b quiet) (unanswered-unrecorded p (stepOf p m b .machine) bs e))
     (λ answered e. absurd (omega arith))
-
--- an entry is left exactly by a byte that brings a request: what is held and the byte, with the reply
-module _ (p : Profile) (m : Machine) (b : ℕ) where
-  pub entry-asked : Brings m b → entriesAt p m b ≡ exchange (heardWith m b) (stepOf p m b .reply) ∷ []
-  unfolding entriesAt
-  entry-asked h = by (completes m b) (refuses m b) refl refl
-    where
-      by : (s t : Bool) → completes m b ≡ s → refuses m b ≡ t
-          → cond (s || t) (exchange (heardWith m b) (stepOf p m b .reply) ∷ []) [] ≡ exchange (heardWith m b) (stepOf p m b .reply) ∷ []
-      by true t c f = refl
-      by false true c f = refl
-      by false false c f = absurd (⊎-elim (λ e. impossible (cc)) (λ e. impossible (cc)) h)
-
-  pub entry-unasked : (Brings m b → ⊥) → entriesAt p m b ≡ []
-  unfolding entriesAt
-  entry-unasked n = let u = unbrought m b n in rw (u .0, u .1) refl
 
 -- each reset leaves its own
 pub reset-recorded : (p : Profile) (m : Machine) → recordOf p m (again ∷ []) ≡ restart ∷ []

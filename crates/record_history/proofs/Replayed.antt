@@ -1,7 +1,7 @@
 -- Demand 3: after any history of deliveries and resets the image is the starting image with the line's record replayed. Assumes nothing.
 use mathlib.Core.Bool.{_||_, cond}
 use mathlib.Core.List.{List, [], _∷_, _++_}
-use mathlib.Core.Path.{_≡_, refl, sym, ap, _∙_}
+use mathlib.Core.Path.{_≡_, refl, sym, ap, subst, _∙_}
 use Prim.Native.Nat.{ℕ}
 use lib.Dec.{eqb}
 use Rattle.verdict.specs.declared.Reason.the-variants.{LengthRefused}
@@ -36,6 +36,7 @@ use Rattle.record_exchange.specs.Line.{Entry, exchange}
 use Rattle.record_replay.specs.Replay.{Tape, done, entryReplay, replayFrom, replay}
 use Rattle.record_replay.proofs.Laws.{replay-append}
 use Rattle.record_history.specs.History.{Call, deliver, again, freshOf, hearing, machineAfter, entriesAt, heardRecord, recordOf}
+use Rattle.record_history.proofs.Recorded.{entries-are}
 use Rattle.record_history.proofs.SameAct.{Follows, Agrees, passed-over, same-act}
 
 -- the entries take the tape from one image to that of the next machine
@@ -101,8 +102,10 @@ module _ (p : Profile) (m : Machine) (l : Landing) (h : Follows (m .state .stage
   step-in-law b (Packet kind) law = heard-law (heardWith m b) (progressOf kind (heardWith m b)) law
 
   pub step-law : (b : ℕ) → Leads p (m .image) l (entriesAt p m b) (stepOf p m b .machine)
-  unfolding stepOf entriesAt completes refuses
-  step-law b = step-in-law b (awaitsOf (m .state .stage)) (λ c. same-act p (m .image) (m .state) l (heardWith m b) c h)
+  unfolding stepOf completes refuses
+  step-law b =
+      subst (λ (es : List Entry). Leads p (m .image) l es (stepOf p m b .machine)) (sym (entries-are p m b))
+      (step-in-law b (awaitsOf (m .state .stage)) (λ c. same-act p (m .image) (m .state) l (heardWith m b) c h))
 
 -- one record behind the other
 then : (p : Profile) (image : List ℕ) (l : Landing) (es fs : List Entry) (m m′ : Machine) (k : Leads p image l es m)
