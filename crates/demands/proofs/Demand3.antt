@@ -10,14 +10,14 @@ use Rattle.packet.specs.Frame.{Roomy}
 use Rattle.state.specs.declared.State.{State}
 use Rattle.state.specs.State.{freshState}
 use Rattle.record_replay.specs.Replay.{replay}
-use Rattle.record_replay.proofs.Laws.{units-unseen}
+use Rattle.record_replay.proofs.Laws.{unanswered-unseen, restart-unseen, units-unseen}
 use Rattle.device_calls.specs.declared.Refusal.the-variants.{Accepted}
 use Rattle.device_calls.specs.Calls.{feedRefusal}
 use Rattle.device_calls.proofs.Rows.{start-accepts}
 use Rattle.device_steps.specs.Step.{Machine}
 use Rattle.device_steps.proofs.Kept.{fresh-fits}
 use Rattle.record_history.specs.History.{Call, freshOf, machineAfter}
-use Rattle.record_history.proofs.Cut.{cut-anywhere, cut-record}
+use Rattle.record_history.proofs.Cut.{cut-anywhere, cut-record, feed-hears, hears-on}
 use Rattle.record_history.proofs.Lasting.{then-resets, then-feeds}
 use Rattle.record_history.proofs.Replayed.{replayed}
 use Rattle.demands.specs.Session.{lentBy, machineIn, Turn, historyOf}
@@ -58,8 +58,12 @@ demand-3 =
       flash = λ p acceptable image fits. replayed p image;
       accepted = next-accepted;
       cut = λ p m a b more. (cut-anywhere p m a b more, cut-record p m a b more);
+      heard = feed-hears;
+      unread = hears-on;
       calls = calls-history;
       kept = flash-kept;
       goes-on = next-kept;
+      unanswered = unanswered-unseen;
+      restarts = restart-unseen;
       blind = units-unseen;
     }

@@ -1,10 +1,11 @@
 -- Demand 3. Start from any acceptable profile, kept throughout, and any image that fits it. After any bytes, cut into any deliveries, with resets
 -- between, and with nobody else touching the lent buffers or state, the flash equals the starting image with the line's own record replayed.
+use mathlib.Core.Bool.{false}
 use mathlib.Core.List.{List, [], _∷_, _++_, map}
 use mathlib.Core.Logic.{_⊎_}
 use mathlib.Core.Path.{_≡_}
 use Prim.Native.Nat.{ℕ}
-use lib.ListN.{length, take}
+use lib.ListN.{length, take, drop}
 use Rattle.profile.specs.declared.Area.{Area}
 use Rattle.profile.specs.declared.Profile.{Profile}
 use Rattle.profile.specs.Areas.{areasOf, totalOf}
@@ -14,13 +15,15 @@ use Rattle.packet.specs.declared.Progress.the-variants.{Unfit, Complete}
 use Rattle.packet.specs.Packet.{progressOf}
 use Rattle.packet.specs.Frame.{Roomy}
 use Rattle.state.specs.State.{zeroState}
+use Rattle.record_exchange.specs.Exchange.{answeredOk}
 use Rattle.record_exchange.specs.Line.{Entry, exchange, restart}
 use Rattle.record_replay.specs.Replay.{replay}
 use Rattle.device_calls.specs.declared.Refusal.the-variants.{Accepted}
 use Rattle.device_calls.specs.declared.Started.{Started}
 use Rattle.device_calls.specs.Calls.{buffers, startRefusal, feedRefusal, Starts}
 use Rattle.device_steps.specs.Step.{Machine}
-use Rattle.record_history.specs.History.{Call, deliver, freshOf, machineAfter, recordOf}
+use Rattle.device_steps.specs.Feed.{feedOf}
+use Rattle.record_history.specs.History.{Call, deliver, freshOf, hearing, machineAfter, recordOf}
 use Rattle.demands.specs.Line.{IsRecord}
 use Rattle.demands.specs.Session.{Kept, lentBy, machineIn, Turn, AllHonest, keptAfter, historyOf}
 
@@ -74,6 +77,9 @@ pub record Demand3 : Type 0 where
   pub cut : (p : Profile) (m : Machine) (a b : List ℕ) (more : List Call)
       → (machineAfter p m (deliver (a ++ b) ∷ more) ≡ machineAfter p m (deliver a ∷ deliver b ∷ more))
       × (recordOf p m (deliver (a ++ b) ∷ more) ≡ recordOf p m (deliver a ∷ deliver b ∷ more))
+  -- a feed hears the bytes that it consumes, and what it leaves unread is heard as if it had come at once when it is fed again
+  pub heard : (p : Profile) (m : Machine) (bs : List ℕ) → feedOf p m bs .machine ≡ hearing p m (take (feedOf p m bs .consumed) bs)
+  pub unread : (p : Profile) (m : Machine) (bs : List ℕ) → hearing p m bs ≡ hearing p (feedOf p m bs .machine) (drop (feedOf p m bs .consumed) bs)
   -- over calls: whatever was called, the machine that is kept is that after the history of what was consumed and reset; refused calls are none of it
   pub calls : (p : Profile) (k : Kept) (turns : List Turn) → AllHonest p k turns → machineIn (keptAfter k turns) ≡ machineAfter p (machineIn k) (historyOf turns)
   -- so the image that is kept is the starting image with the line's own record replayed
@@ -82,5 +88,9 @@ pub record Demand3 : Type 0 where
   -- and with buffers of 1,030 bytes the next feed is accepted
   pub goes-on : (p : Profile) (image receive : List ℕ) (turns : List Turn) (f : FromStart p image receive turns) (reply : List ℕ)
       → Roomy (keptSince f .receive) → Roomy reply → feedRefusal p (keptSince f .state) (lentBy (keptSince f) reply) ≡ Accepted
+  -- what was not answered OK has no effect in a replay, and neither has a reset
+  pub unanswered : (areas : List Area) (image q reply : List ℕ) (es fs : List Entry) → answeredOk q reply ≡ false
+      → replay areas image (es ++ exchange q reply ∷ fs) ≡ replay areas image (es ++ fs)
+  pub restarts : (areas : List Area) (image : List ℕ) (es fs : List Entry) → replay areas image (es ++ restart ∷ fs) ≡ replay areas image (es ++ fs)
   -- the replay reads only the areas' addresses, requests and replies: units and kinds of areas are not seen
   pub blind : (areas : List Area) (image : List ℕ) (es : List Entry) → replay areas image es ≡ replay (map (λ a. record { koa = 0; sad = a .sad; ead = a .ead; eau = 0; wau = 0 }) areas) image es

@@ -1,4 +1,4 @@
--- Which calls from outside are refused, with which number: the rows of document 01, with bytes for profile and state.
+-- Which calls from outside are refused, with which number: the rows of the protocol, with bytes for profile and state.
 use mathlib.Core.Bool.{true, not}
 use mathlib.Core.List.{List, [], _∷_, _++_}
 use mathlib.Core.Option.{Option, none, some}

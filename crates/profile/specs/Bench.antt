@@ -1,4 +1,4 @@
--- The bench profile of document 01, and the area table of source 000.
+-- The bench profile of the protocol, and the area table of source 000.
 use mathlib.Core.List.{List, _∷_}
 use Prim.Native.Nat.{ℕ}
 use lib.ListN.{replicate}

@@ -1,4 +1,4 @@
--- An acceptable profile's conditions by name, as document 01 lists them: what later layers rely on.
+-- An acceptable profile's conditions by name, as the protocol lists them: what later layers rely on.
 use mathlib.Core.Bool.{true}
 use mathlib.Core.List.{List, [], _∷_}
 use mathlib.Core.Path.{_≡_}

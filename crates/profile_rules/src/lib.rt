@@ -9,7 +9,7 @@ ghost use Rattle.profile_rules.specs.Judged.{talliesOf, uncountedBy, sur
 use profile::Area;
 use profile::Profile;
 
-// One rule for each condition of document 01; those of an area carry its number in the table.
+// One rule for each condition of the protocol; those of an area carry its number in the table.
 pub enum Rule {
     // NOA is 1 to 8
     AreaCount,

@@ -22,7 +22,7 @@ pub fn hex(byte: u8) -> [u8; 2]
     [digit(byte / 16), digit(byte % 16)]
 }
 
-// The bench profile of document 01: 64 KB of user area and 256 bytes of config; no window.
+// The bench profile of the protocol: 64 KB of user area and 256 bytes of config; no window.
 pub fn bench_profile() -> Profile
     ensures { λ r. ⌜ r ≡ bench ⌝ }
 {

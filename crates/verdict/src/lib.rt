@@ -2,7 +2,7 @@
 ghost use mathlib.Core.Path.{_≡_};
 ghost use Rattle.verdict.specs.Code.{codeOf, statusOf};
 
-// One reason for each check of document 01, in the order in which the paper names them.
+// One reason for each check of the protocol, in the order in which it names them.
 pub enum Reason {
     // every complete packet
     WrongEtx,

@@ -36,7 +36,7 @@ impl Refusal {
         }
     }
 
-    /// Its number in document 01 and in `include/indraveck.h`.
+    /// Its number in the protocol and in `include/indraveck.h`.
     pub fn number(self) -> u32 {
         match self {
             Refusal::WrongImageLength => 1,

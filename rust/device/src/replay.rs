@@ -8,7 +8,8 @@ use crate::refusal::Refusal;
 /// cannot be, with which the reading ends. A refused replay leaves the image.
 ///
 /// A recording is records one behind the other: a mark 52h 4Ch, a direction (48h host, 44h device, 52h reset), a length in two bytes,
-/// high byte first, and that many bytes. Each request is one host record, with the reply as the device record right behind it.
+/// high byte first, and that many bytes. Each request is one host record, with the reply as the device record right behind it. A
+/// record without its partner does nothing, and a request in two host records is not put together.
 ///
 /// ```
 /// let erase = [0x01, 0x00, 0x09, 0x12, 0x00, 0x00, 0x00, 0x00, 0x00, 0x00, 0x1F, 0xFF, 0xC7, 0x03];

@@ -139,7 +139,7 @@ impl fmt::Display for Rule {
 }
 
 impl Profile {
-    /// All the rules that it breaks, in document 01's order; none if it is acceptable.
+    /// All the rules that it breaks, in the protocol's order; none if it is acceptable.
     ///
     /// ```
     /// use indraveck::{Profile, Rule};

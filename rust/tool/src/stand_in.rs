@@ -73,7 +73,7 @@ impl StandIn {
         self.device.line_rate()
     }
 
-    /// Whether a port at this rate is understood, by document 01's 4 %.
+    /// Whether a port at this rate is understood, by the protocol's 4 %.
     pub fn hears(&self, rate: u32) -> bool {
         self.device.matches_rate(rate)
     }
