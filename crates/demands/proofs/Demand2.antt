@@ -4,7 +4,7 @@ use Rattle.flash.proofs.ByAddress.{changed-at, blanked-at}
 use Rattle.device_steps.proofs.Decided.{step-complete, step-early}
 use Rattle.demands.specs.Demand2.{Demand2}
 use Rattle.demands.proofs.Rows.{feed-ran}
-use Rattle.demands.proofs.Once.{feeds-once}
+use Rattle.demands.proofs.Once.{feeds-some, feeds-once}
 use Rattle.demands.proofs.Stopping.{feed-stops, quiet-byte, waking-byte, command-goes, write-goes, next-goes}
 
 pub demand-2 : Demand2
@@ -12,6 +12,7 @@ unfolding stored erased
 demand-2 =
     record {
       leaves = λ p st input before after r f. feed-ran f;
+      some = feeds-some;
       once = feeds-once;
       consumed = feed-stops;
       complete = step-complete;

@@ -51,6 +51,12 @@ pub record SameOutcome (after after′ : Lent) (r r′ : Fed) : Type 0 where
   pub held : take (r .state .held) (after .receive) ≡ take (r′ .state .held) (after′ .receive)
   pub reply : after .reply ≡ after′ .reply
 
+-- an outcome that feeding may have
+pub record Outcome (p : Profile) (st : State) (input : List ℕ) (before : Lent) : Type 0 where
+  pub after : Lent
+  pub answer : Fed
+  pub feeds : Feeds p st input before after answer
+
 -- bytes that are not answered
 abbrev pub Unanswered : Profile → Machine → List ℕ → Type 0
 Unanswered p m bs = EachIn (λ k b. stepOf p k b .reply ≡ []) p m bs
@@ -83,7 +89,9 @@ pub record Demand2 : Type 0 where
   -- an accepted feed leaves what is defined: state, consumed count, reply length, image, held bytes, reply buffer
   pub leaves : (p : Profile) (st : State) (input : List ℕ) (before after : Lent) (r : Fed) → Feeds p st input before after r → r .refusal ≡ Accepted
       → Ran (feedOf p (machineOf st before) input) input before after r
-  -- and no second outcome, accepted or refused, does what feeding promises
+  -- whatever is lent there is an outcome that does what feeding promises
+  pub some : (p : Profile) (st : State) (input : List ℕ) (before : Lent) → Outcome p st input before
+  -- and no second one, accepted or refused
   pub once : (p : Profile) (st : State) (input : List ℕ) (before after after′ : Lent) (r r′ : Fed)
       → Feeds p st input before after r → Feeds p st input before after′ r′ → SameOutcome after after′ r r′
   -- what is consumed: everything, or all up to the first byte that is answered
