@@ -37,7 +37,7 @@ module _ (p : Profile) (image receive : List ℕ) (turns : List Turn) (f : FromS
   unfolding freshState
   kept-machine =
       let fresh : f .begun .state ≡ freshState p = start-fresh (f .starts) (start-refusal (f .starts) ∙ start-accepts p (length image) (f .acceptable) (f .fits)) in
-      calls-history p _ turns (f .met)
+      calls-history p _ turns (f .honest)
       ∙ ap (λ (st : State). machineAfter p (record { image = image; held = take (st .held) receive; state = st }) (historyOf turns)) fresh
 
   flash-kept : keptSince f .image ≡ replay (areasOf p) image (left p image (historyOf turns))

@@ -22,11 +22,11 @@ use Rattle.interface.specs.Calls.{LentBytes, startingRows, stateRows, feedingRo
 use Rattle.interface.specs.Post.{Numbers, StartedBytes, ResetBytes, resetOver, deliveryOf, RanBytes, UnfedBytes, FedBytes, FeedsBytes}
 use Rattle.interface_replay.specs.Post.{imageBy, readBy, Replayed}
 use Rattle.demands.specs.Outside.{NumberedBy, Outside}
-use Rattle.demands.proofs.Rows.{by-rows, number-once}
+use Rattle.demands.proofs.Rows.{by-rows, refusal-once}
 
 -- a number tells its refusal
 zero-accepts : (refusal : Refusal) → numberOf refusal ≡ 0 → refusal ≡ Accepted
-zero-accepts refusal e = number-once refusal Accepted e
+zero-accepts refusal e = refusal-once refusal Accepted e
 
 numbered-by : (rows : List (Check Row)) {n : ℕ} → n ≡ numberOf (refusalOf (firstFault rows)) → NumberedBy rows n
 numbered-by rows e =
@@ -34,7 +34,7 @@ numbered-by rows e =
     let b = by-rows rows {refusal = refusalOf (firstFault rows)} refl in
     record {
       accepted = (λ h. b .accepted .0 (zero-accepts x (sym e ∙ h)), λ n. e ∙ ap numberOf (b .accepted .1 n));
-      refused = λ row. (λ h. b .refused row .0 (number-once x (By row) (sym e ∙ h)), λ f. e ∙ ap numberOf (b .refused row .1 f));
+      refused = λ row. (λ h. b .refused row .0 (refusal-once x (By row) (sym e ∙ h)), λ f. e ∙ ap numberOf (b .refused row .1 f));
     }
 
 -- what goes by a refusal, where it is accepted and where it is not
@@ -65,7 +65,7 @@ module _ (profile input : List ℕ) (before after : LentBytes) (r : Numbers) (f 
   fed-accepted z = subst (λ (x : Refusal). FedBytes x d input before after r) (zero-accepts (feedingRefusal profile before) (sym number-is ∙ z)) f
 
   fed-refused : (row : Row) → r .number ≡ rowNumber row → UnfedBytes row before after r
-  fed-refused row z = subst (λ (x : Refusal). FedBytes x d input before after r) (number-once (feedingRefusal profile before) (By row) (sym number-is ∙ z)) f
+  fed-refused row z = subst (λ (x : Refusal). FedBytes x d input before after r) (refusal-once (feedingRefusal profile before) (By row) (sym number-is ∙ z)) f
 
 same-rows : (profile : List ℕ) (l : LentBytes) (st : State) → stateIn (l .state) ≡ some st
     → feedingRows profile l ≡ feedRows (profileIn profile) st (buffers (l .image) (l .receive) (l .reply))

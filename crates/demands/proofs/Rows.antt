@@ -105,5 +105,5 @@ number-tells (By WrongState) = refl
 number-tells (By ShortReceive) = refl
 number-tells (By ShortReply) = refl
 
-pub number-once : (a b : Refusal) → numberOf a ≡ numberOf b → a ≡ b
-number-once a b e = number-tells a ∙ ap numbered e ∙ sym (number-tells b)
+pub refusal-once : (a b : Refusal) → numberOf a ≡ numberOf b → a ≡ b
+refusal-once a b e = number-tells a ∙ ap numbered e ∙ sym (number-tells b)

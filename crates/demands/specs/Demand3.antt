@@ -56,7 +56,7 @@ pub record FromStart (p : Profile) (image receive : List ℕ) (turns : List Turn
   pub fits : length image ≡ totalOf (areasOf p)
   pub begun : Started
   pub starts : Starts p (length image) zeroState begun
-  pub met : AllHonest p (record { image = image; receive = receive; state = begun .state }) turns
+  pub honest : AllHonest p (record { image = image; receive = receive; state = begun .state }) turns
 
 -- what the caller keeps after them
 abbrev pub keptSince : {p : Profile} {image receive : List ℕ} {turns : List Turn} → FromStart p image receive turns → Kept

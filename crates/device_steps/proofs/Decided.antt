@@ -20,6 +20,7 @@ use Rattle.profile.specs.Areas.{areasOf}
 use Rattle.packet.specs.declared.Progress.{Progress}
 use Rattle.packet.specs.declared.Progress.the-variants.{Astray, Partial, Unfit, Complete, Excess}
 use Rattle.packet.specs.Packet.{progressOf, isComplete, frame}
+use Rattle.packet.proofs.Gathering.{is-complete}
 use Rattle.packet.proofs.Laws.{impossible}
 use Rattle.packet_reply.specs.Reply.{marked, resOf, statusReply}
 use Rattle.id_code.specs.Identity.{totalErase}
@@ -186,14 +187,6 @@ module _ (p : Profile) (image : List ℕ) (st : State) (r : Range) (q : List ℕ
       (λ e. rw (next-granted p image st r q e) (omega arith))
 
 -- which of the answers a byte brings
-
-complete-is : (x : Progress) → isComplete x ≡ true → x ≡ Complete
-complete-is Astray e = impossible (cc)
-complete-is Partial e = impossible (cc)
-complete-is Unfit e = impossible (cc)
-complete-is Complete e = refl
-complete-is Excess e = impossible (cc)
-
 pub unfit-is : (x : Progress) → isUnfit x ≡ true → x ≡ Unfit
 unfit-is Astray e = impossible (cc)
 unfit-is Partial e = impossible (cc)
@@ -208,7 +201,7 @@ module _ (p : Profile) (m : Machine) (b : ℕ) where
   complete-in : (a : Awaited) → isComplete (progressIn a q) ≡ true → stepIn p m a b ≡ settled p m (infoOf q) (answerOf p (m .image) (m .state) (m .state .stage) q)
   unfolding stepIn heard progressIn
   complete-in (WakeUp u) e = impossible (cc)
-  complete-in (Packet kind) e = ap (heard p m q) (complete-is (progressOf kind q) e)
+  complete-in (Packet kind) e = ap (heard p m q) (is-complete (progressOf kind q) e)
 
   -- a complete packet is answered as its stage says
   pub step-complete : completes m b ≡ true → stepOf p m b ≡ settled p m (infoOf q) (answerOf p (m .image) (m .state) (m .state .stage) q)

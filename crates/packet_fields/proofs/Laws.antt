@@ -37,23 +37,23 @@ com-back Area = refl
 com-back Unknown = refl
 
 -- two commands never have one number
-pub number-once : (cmd other : Com) → comNumber cmd ≡ comNumber other → cmd ≡ other
-number-once cmd other e = sym (com-back cmd) ∙ ap comOf e ∙ com-back other
+pub com-once : (cmd other : Com) → comNumber cmd ≡ comNumber other → cmd ≡ other
+com-once cmd other e = sym (com-back cmd) ∙ ap comOf e ∙ com-back other
 
 -- a number that is a command's is the number of that command
-number-in : (cmds : List Com) (n : ℕ) → (comIn cmds n ≡ Unknown → ⊥) → n ≡ comNumber (comIn cmds n)
+com-number-in : (cmds : List Com) (n : ℕ) → (comIn cmds n ≡ Unknown → ⊥) → n ≡ comNumber (comIn cmds n)
 unfolding comIn
-number-in [] n known = absurd (known refl)
-number-in (cmd ∷ more) n known = by (eqb n (comNumber cmd)) refl (number-in more n) known
+com-number-in [] n known = absurd (known refl)
+com-number-in (cmd ∷ more) n known = by (eqb n (comNumber cmd)) refl (com-number-in more n) known
   where
     by : (t : Bool) → eqb n (comNumber cmd) ≡ t → ((comIn more n ≡ Unknown → ⊥) → n ≡ comNumber (comIn more n)) → (cond t cmd (comIn more n) ≡ Unknown → ⊥)
         → n ≡ comNumber (cond t cmd (comIn more n))
     by true e later k = eqb-true n (comNumber cmd) e
     by false e later k = later k
 
-pub number-back : (n : ℕ) → (comOf n ≡ Unknown → ⊥) → n ≡ comNumber (comOf n)
+pub com-number : (n : ℕ) → (comOf n ≡ Unknown → ⊥) → n ≡ comNumber (comOf n)
 unfolding comOf
-number-back n known = number-in (Inquiry ∷ Erase ∷ Write ∷ Read ∷ Authenticate ∷ Baud ∷ Signature ∷ Area ∷ []) n known
+com-number n known = com-number-in (Inquiry ∷ Erase ∷ Write ∷ Read ∷ Authenticate ∷ Baud ∷ Signature ∷ Area ∷ []) n known
 
 -- a packet with no room between COM and SUM, and one with room
 pub info-none : (q : List ℕ) → length q < 6 → [] ≡ infoOf q

@@ -128,7 +128,9 @@ fn ranges_are_granted_and_refused_as_written() {
 fn low_pulses_go_as_written() {
     let columns = [0x00, 0x55, 0xA7];
     let steps = ["none", "one", "acknowledged"];
-    for row in table("4.4") {
+    let rows = table("4.4");
+    assert_eq!(rows.len(), steps.len());
+    for row in rows {
         let before = steps.iter().position(|step| *step == row[0]).unwrap();
         for (column, byte) in columns.iter().enumerate() {
             let mut device = blank();
