@@ -26,7 +26,7 @@ fn wide(byte: u8) -> u32
 }
 
 // Whether a field of `width` bytes at `at` lies in a slice of `length` bytes.
-fn has_field(length: usize, at: usize, width: usize) -> bool
+pub fn has_field(length: usize, at: usize, width: usize) -> bool
     ensures { λ r. ⌜ r ≡ leb (at + width) length ⌝ }
 {
     if length < width {

@@ -1,65 +1,93 @@
--- A recording of a line, as bytes: records one behind the other, each a mark 52h 4Ch, a direction (48h host, 44h device, 52h reset),
--- a length in two bytes, and that many bytes.
-use mathlib.Core.Bool.{Bool, _&&_, cond}
-use mathlib.Core.List.{List, [], _∷_, _++_}
+-- Reading a recording: what stands at a place; the records one behind the other; how far, and why no further.
+use mathlib.Core.Bool.{not, cond}
+use mathlib.Core.List.{List, [], _∷_}
+use mathlib.Core.Option.{Option, none, some}
 use mathlib.Core.Path.{_≡_}
-use Prim.Native.Nat.{ℕ, zero, suc, _+_, _-_, _≤_, _<_}
+use Prim.Native.Nat.{ℕ, zero, suc, _+_, _-_, _≤_}
 use lib.ListN.{length, take, drop, getD}
 use lib.Dec.{leb, eqb}
-use Rattle.numbers.specs.Bytes.{number, bytesOf, field}
+use Rattle.numbers.specs.Bytes.{number, field}
+use Rattle.numbers.specs.Same.{same}
+use Rattle.verdict.specs.Check.{Check, _gives_, firstFault}
+use Rattle.recording.specs.declared.Direction.{Direction}
+use Rattle.recording.specs.declared.Direction.the-variants.{Host, Device, Reset}
+use Rattle.recording.specs.declared.Directed.{Directed}
+use Rattle.recording.specs.declared.Directed.the-variants.{Known, Unknown}
+use Rattle.recording.specs.declared.Fault.{Fault}
+use Rattle.recording.specs.declared.Fault.the-variants.{BadMark, BadDirection, CutShort}
 use Rattle.recording.specs.declared.Part.{Part}
 use Rattle.recording.specs.declared.Found.{Found}
-use Rattle.recording.specs.declared.Found.the-variants.{Host, Device, Reset, End, Unreadable}
+use Rattle.recording.specs.declared.Found.the-variants.{Is, End, Refused}
+use Rattle.recording.specs.declared.Ended.{Ended}
+use Rattle.recording.specs.declared.Ended.the-variants.{Not, Whole, By}
+use Rattle.recording.specs.declared.Extent.{Extent}
+use Rattle.recording.specs.Format.{mark, headLength, directionNumber, directedOf, directionCheck, lengthCheck, faultNumber, Record, host, device, reset}
 
--- mark, direction and length
-abbrev pub headLength : ℕ
-headLength = 5
+-- the fields of the record at a place; one that is not whole is cut short before its value counts
+abbrev pub directionAt : List ℕ → ℕ → ℕ
+directionAt recording at = getD recording (at + 2) 0
 
--- how many bytes the record at a place has behind its head
 unfoldable pub countAt : List ℕ → ℕ → ℕ
 countAt recording at = number (field 2 (at + 3) recording)
 
--- the bytes behind the head
 abbrev pub partAt : List ℕ → ℕ → Part
 partAt recording at = record { from = at + headLength; to = at + headLength + countAt recording at }
 
--- a record by its direction
-unfoldable pub directed : ℕ → Part → Found
-directed direction part =
-    cond (eqb direction 0x48) (Host part)
-    (cond (eqb direction 0x44) (Device part)
-    (cond (eqb direction 0x52) (Reset part)
-    Unreadable))
+-- a field that ends at `to` is not whole
+abbrev pub cutCheck : List ℕ → ℕ → Check Fault
+cutCheck recording to = not (leb to (length recording)) gives CutShort
 
--- a mark, and a head that is whole
-unfoldable pub headed : List ℕ → ℕ → Bool
-headed recording at =
-    leb (at + headLength) (length recording) && (eqb (getD recording at 0) 0x52 && eqb (getD recording (at + 1) 0) 0x4C)
+-- what is wrong, each field judged as soon as it is whole: behind a known direction, and from the mark on
+unfoldable pub lengthChecks : List ℕ → ℕ → ℕ → List (Check Fault)
+lengthChecks recording at direction =
+    cutCheck recording (at + headLength)
+    ∷ lengthCheck direction (countAt recording at)
+    ∷ cutCheck recording (partAt recording at .to)
+    ∷ []
 
--- what stands at a place: at the end nothing, behind it nothing that can be read
+unfoldable pub readChecks : List ℕ → ℕ → List (Check Fault)
+readChecks recording at =
+    cutCheck recording (at + 2)
+    ∷ (not (same (field 2 at recording) mark) gives BadMark)
+    ∷ cutCheck recording (at + 3)
+    ∷ directionCheck (directionAt recording at)
+    ∷ lengthChecks recording at (directionAt recording at)
+
+-- a record to which no check applies has a known direction
+abbrev pub foundBy : Option Fault → Directed → Part → Found
+foundBy (some fault) direction part = Refused fault
+foundBy none (Known direction) part = Is direction part
+foundBy none Unknown part = Refused BadDirection
+
+-- what stands at a place: at the end nothing, behind it what is cut short
 unfoldable pub foundAt : List ℕ → ℕ → Found
 foundAt recording at =
     cond (eqb at (length recording)) End
-    (cond (headed recording at && leb (partAt recording at .to) (length recording))
-    (directed (getD recording (at + 2) 0) (partAt recording at))
-    Unreadable)
+    (foundBy (firstFault (readChecks recording at)) (directedOf (directionAt recording at)) (partAt recording at))
 
--- the records, without marks and lengths; a reset's bytes, if it has any, say nothing
-pub data Record : Type 0 where
-  host : List ℕ → Record
-  device : List ℕ → Record
-  reset : Record
+-- the answer as a number: a record's is its direction's; 0 is none
+abbrev pub endNumber : ℕ
+endNumber = 6
+
+abbrev pub foundNumber : Found → ℕ
+foundNumber (Is direction part) = directionNumber direction
+foundNumber End = endNumber
+foundNumber (Refused fault) = faultNumber fault
 
 abbrev pub bytesIn : Part → List ℕ → List ℕ
 bytesIn part recording = take (part .to - part .from) (drop (part .from) recording)
 
+-- a record by its direction
+abbrev pub recordBy : Direction → List ℕ → Record
+recordBy Host bytes = host bytes
+recordBy Device bytes = device bytes
+recordBy Reset bytes = reset
+
 -- a record that was found, and what follows it
 abbrev pub continued : (ℕ → List Record) → List ℕ → Found → List Record
-continued more recording (Host part) = host (bytesIn part recording) ∷ more (part .to)
-continued more recording (Device part) = device (bytesIn part recording) ∷ more (part .to)
-continued more recording (Reset part) = reset ∷ more (part .to)
+continued more recording (Is direction part) = recordBy direction (bytesIn part recording) ∷ more (part .to)
 continued more recording End = []
-continued more recording Unreadable = []
+continued more recording (Refused fault) = []
 
 -- at most n records from a place on
 unfoldable pub recordsWithin : ℕ → List ℕ → ℕ → List Record
@@ -75,11 +103,9 @@ recordsOf recording = recordsFrom recording 0
 
 -- where reading stops: at the end, or at the first record that cannot be read
 abbrev pub stopped : (ℕ → ℕ) → ℕ → Found → ℕ
-stopped more at (Host part) = more (part .to)
-stopped more at (Device part) = more (part .to)
-stopped more at (Reset part) = more (part .to)
+stopped more at (Is direction part) = more (part .to)
 stopped more at End = at
-stopped more at Unreadable = at
+stopped more at (Refused fault) = at
 
 unfoldable pub stopWithin : ℕ → List ℕ → ℕ → ℕ
 stopWithin zero recording at = at
@@ -92,6 +118,25 @@ stopFrom recording at = stopWithin (length recording - at) recording at
 abbrev pub readable : List ℕ → ℕ
 readable recording = stopFrom recording 0
 
+-- how reading ends with what stands at a place: with a record it does not
+abbrev pub endedBy : Found → Ended
+endedBy (Is direction part) = Not
+endedBy End = Whole
+endedBy (Refused fault) = By fault
+
+-- how far a recording can be read, and why no further
+abbrev pub extentAt : List ℕ → ℕ → Extent
+extentAt recording at = record { count = at; ended = endedBy (foundAt recording at) }
+
+abbrev pub extentOf : List ℕ → Extent
+extentOf recording = extentAt recording (readable recording)
+
+-- as a number; 0 is that of a recording that was not read
+abbrev pub endedNumber : Ended → ℕ
+endedNumber Not = 0
+endedNumber Whole = endNumber
+endedNumber (By fault) = faultNumber fault
+
 -- where the part of a record that stands at a place of n bytes lies: behind its head, and not past the end
 pub record LiesBehind (at n : ℕ) (part : Part) : Type 0 where
   pub head : part .from ≡ at + headLength
@@ -100,32 +145,6 @@ pub record LiesBehind (at n : ℕ) (part : Part) : Type 0 where
 
 -- a record that was found lies inside a recording of n bytes
 abbrev pub Inside : ℕ → Found → Type 0
-Inside n (Host part) = (part .from ≤ part .to) × (part .to ≤ n)
-Inside n (Device part) = (part .from ≤ part .to) × (part .to ≤ n)
-Inside n (Reset part) = (part .from ≤ part .to) × (part .to ≤ n)
+Inside n (Is direction part) = (part .from ≤ part .to) × (part .to ≤ n)
 Inside n End = Unit {0}
-Inside n Unreadable = Unit {0}
-
--- a record's bytes, and the direction that says which it is
-abbrev pub payload : Record → List ℕ
-payload (host bytes) = bytes
-payload (device bytes) = bytes
-payload reset = []
-
-abbrev pub directionOf : Record → ℕ
-directionOf (host bytes) = 0x48
-directionOf (device bytes) = 0x44
-directionOf reset = 0x52
-
--- records as a recording has them
-unfoldable pub entry : Record → List ℕ
-entry r = 0x52 ∷ 0x4C ∷ directionOf r ∷ (bytesOf 2 (length (payload r)) ++ payload r)
-
-unfoldable pub written : List Record → List ℕ
-written [] = []
-written (r ∷ rs) = entry r ++ written rs
-
--- each record's bytes can be counted in two bytes
-unfoldable pub Countable : List Record → Type 0
-Countable [] = Unit {0}
-Countable (r ∷ rs) = (length (payload r) < 65536) × Countable rs
+Inside n (Refused fault) = Unit {0}
