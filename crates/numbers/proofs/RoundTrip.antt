@@ -5,11 +5,11 @@ use Prim.Native.Nat.{ℕ, zero, suc, _+_, _-_, _*_, _/_, _%_, _^_, _≤_, _<_}
 use native.Mathlib.Nat.{mod-eq-of-lt, mod-one, mul-assoc, pow-succ', add-mul-div-right, add-comm, mul-add-mod-self-right}
 use native.Mathlib.Omega.{arith}
 use lib.Arith.{mod-mul, digits-lt, digits-div}
-use lib.ListN.{length, take, drop}
+use lib.ListN.{length, take, drop, getD}
 use lib.Seq.{sets, sets-eq, length-sets, drop-at, take-at, length-take-le}
 use borrow.Author.Tests.{le-leb}
 use Rattle.numbers.specs.declared.Number.the-variants.{Is}
-use Rattle.numbers.specs.Bytes.{number, bytesOf, field, numberAt, withNumber}
+use Rattle.numbers.specs.Bytes.{number, bytesOf, field, numberAt, withNumber, AllBytes}
 
 pub bytes-length : (w n : ℕ) → length (bytesOf w n) ≡ w
 unfolding bytesOf
@@ -30,10 +30,23 @@ number-bytes (suc w) n =
 pub number-back : (w n : ℕ) → n < 256 ^ w → number (bytesOf w n) ≡ n
 number-back w n h = number-bytes w n ∙ mod-eq-of-lt h
 
--- a list whose numbers are bytes
-unfoldable pub AllBytes : List ℕ → Type 0
-AllBytes [] = Unit {0}
-AllBytes (b ∷ bs) = (b < 256) × AllBytes bs
+-- bytes in a list, by their places; behind a place; before one
+pub all-bytes : (l : List ℕ) → ((i : ℕ) → getD l i 0 < 256) → AllBytes l
+unfolding AllBytes
+all-bytes [] h = tt
+all-bytes (b ∷ bs) h = (h zero, all-bytes bs (λ i. h (suc i)))
+
+pub all-drop : (n : ℕ) (l : List ℕ) → AllBytes l → AllBytes (drop n l)
+unfolding AllBytes
+all-drop zero l h = h
+all-drop (suc n) [] h = h
+all-drop (suc n) (b ∷ bs) h = all-drop n bs (h .1)
+
+pub all-take : (n : ℕ) (l : List ℕ) → AllBytes l → AllBytes (take n l)
+unfolding AllBytes
+all-take zero l h = tt
+all-take (suc n) [] h = tt
+all-take (suc n) (b ∷ bs) h = (h .0, all-take n bs (h .1))
 
 pub number-below : (bs : List ℕ) → AllBytes bs → number bs < 256 ^ length bs
 unfolding number AllBytes

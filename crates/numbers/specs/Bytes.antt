@@ -2,7 +2,7 @@
 use mathlib.Core.Bool.{Bool, cond}
 use mathlib.Core.List.{List, [], _∷_}
 use mathlib.Core.Path.{_≡_}
-use Prim.Native.Nat.{ℕ, zero, suc, _+_, _*_, _/_, _%_, _^_}
+use Prim.Native.Nat.{ℕ, zero, suc, _+_, _*_, _/_, _%_, _^_, _<_}
 use lib.ListN.{length, take, drop}
 use lib.Seq.{sets}
 use lib.Dec.{leb}
@@ -30,6 +30,11 @@ numberAt width s at = cond (leb (at + width) (length s)) (Is (number (field widt
 -- a list with a number's bytes in a field, where the list has the whole field
 unfoldable pub withNumber : ℕ → ℕ → ℕ → List ℕ → List ℕ
 withNumber width n at l = cond (leb (at + width) (length l)) (sets l at (bytesOf width n)) l
+
+-- a list whose numbers are bytes
+unfoldable pub AllBytes : List ℕ → Type 0
+AllBytes [] = Unit {0}
+AllBytes (b ∷ bs) = (b < 256) × AllBytes bs
 
 -- what writing a number leaves, and what it answers
 pub record Put (width n at : ℕ) (before after : List ℕ) (written : Bool) : Type 0 where

@@ -11,8 +11,8 @@ use lib.ListN.{length, take, drop, getD, length-append, take-append-drop, drop-o
 use lib.Seq.{take-at, drop-at, getD-at, drop-cons, length-take-le}
 use lib.Dec.{ltb, eqb}
 use borrow.Author.Tests.{le-leb, le-ltb, eq-eqb, eqb-true, not-false}
-use Rattle.numbers.specs.Bytes.{number, bytesOf}
-use Rattle.numbers.proofs.RoundTrip.{AllBytes, bytes-length, number-back, bytes-number}
+use Rattle.numbers.specs.Bytes.{number, bytesOf, AllBytes}
+use Rattle.numbers.proofs.RoundTrip.{bytes-length, number-back, bytes-number}
 use Rattle.verdict.specs.declared.Reason.{Reason}
 use Rattle.verdict.specs.Check.{firstFault, NoneApplies, passes}
 use Rattle.verdict.proofs.FirstFault.{clear}

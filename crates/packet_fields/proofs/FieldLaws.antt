@@ -5,8 +5,8 @@ use Prim.Native.Nat.{ℕ, zero, suc, _+_, _^_, _≤_, _<_}
 use native.Mathlib.Nat.{add-zero}
 use native.Mathlib.Omega.{arith}
 use lib.ListN.{length, getD}
-use Rattle.numbers.specs.Bytes.{number, bytesOf, field, numberAt}
-use Rattle.numbers.proofs.RoundTrip.{AllBytes, number-back, bytes-number}
+use Rattle.numbers.specs.Bytes.{number, bytesOf, field, numberAt, AllBytes}
+use Rattle.numbers.proofs.RoundTrip.{number-back, bytes-number}
 use Rattle.packet_fields.specs.Fields.{valueOf, fourAt, twoAt, bytesFrom}
 use Rattle.packet_fields.proofs.Spelled.{from-part}
 use Rattle.packet_fields.proofs.Laws.{value-read}

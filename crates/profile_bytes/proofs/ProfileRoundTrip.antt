@@ -6,8 +6,7 @@ use native.Mathlib.Omega.{arith}
 use lib.ListN.{length, take, drop, getD, length-append}
 use lib.Seq.{drop-append-add, getD-append-add}
 use borrow.Author.Tests.{eq-eqb}
-use Rattle.numbers.specs.Bytes.{bytesOf}
-use Rattle.numbers.proofs.RoundTrip.{AllBytes}
+use Rattle.numbers.specs.Bytes.{bytesOf, AllBytes}
 use Rattle.profile.specs.declared.Area.{Area}
 use Rattle.profile.specs.declared.Profile.{Profile}
 use Rattle.packet_messages.specs.Messages.{areaMessage}

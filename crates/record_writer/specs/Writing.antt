@@ -9,20 +9,20 @@ use lib.Dec.{leb}
 use Rattle.verdict.specs.Check.{Check, _gives_, firstFault}
 use Rattle.recording.specs.declared.Fault.{Fault}
 use Rattle.recording.specs.declared.Fault.the-variants.{NoRoom}
-use Rattle.recording.specs.Format.{headLength, directionNumber, directionCheck, lengthCheck, faultNumber, entry}
+use Rattle.recording.specs.declared.Direction.{Direction}
+use Rattle.recording.specs.declared.Found.the-variants.{Is}
+use Rattle.recording.specs.Format.{headLength, directionNumber, rules, entry, Record, directionOf, payload}
+use Rattle.recording.specs.Recording.{foundAt, bytesIn}
 use Rattle.record_writer.specs.declared.Written.{Written}
 use Rattle.record_writer.specs.declared.Written.the-variants.{Behind, Refused}
 
--- what is wrong with a record of so many bytes, to be written at a place of a buffer of so many: the reader's two rules, then the room
+-- what is wrong with a record of so many bytes, to be written at a place of a buffer of so many: a record's two rules, then the room
 unfoldable pub writeChecks : ℕ → ℕ → ℕ → ℕ → List (Check Fault)
-writeChecks direction count at size =
-    directionCheck direction
-    ∷ lengthCheck direction count
-    ∷ (not (leb (at + headLength + count) size) gives NoRoom)
-    ∷ []
+writeChecks direction count at size = rules direction count ++ (not (leb (at + headLength + count) size) gives NoRoom) ∷ []
 
-abbrev pub writeFault : ℕ → ℕ → ℕ → ℕ → Option Fault
-writeFault direction count at size = firstFault (writeChecks direction count at size)
+-- the first of it, for these bytes and this buffer
+abbrev pub writeFault : ℕ → ℕ → List ℕ → List ℕ → Option Fault
+writeFault direction at bytes buffer = firstFault (writeChecks direction (length bytes) at (length buffer))
 
 -- the place behind the record, or why there is none
 abbrev pub writtenBy : Option Fault → ℕ → Written
@@ -34,7 +34,27 @@ abbrev pub leftBy : Option Fault → ℕ → ℕ → List ℕ → List ℕ → L
 leftBy none direction at bytes buffer = take at buffer ++ (entry direction bytes ++ drop (at + headLength + length bytes) buffer)
 leftBy (some fault) direction at bytes buffer = buffer
 
--- what writing promises
+-- what writing answers and leaves
+abbrev pub writtenOf : ℕ → ℕ → List ℕ → List ℕ → Written
+writtenOf direction at bytes buffer = writtenBy (writeFault direction at bytes buffer) (at + headLength + length bytes)
+
+abbrev pub leftOf : ℕ → ℕ → List ℕ → List ℕ → List ℕ
+leftOf direction at bytes buffer = leftBy (writeFault direction at bytes buffer) direction at bytes buffer
+
 pub record Wrote (direction at : ℕ) (bytes before after : List ℕ) (r : Written) : Type 0 where
-  pub answers : r ≡ writtenBy (writeFault direction (length bytes) at (length before)) (at + headLength + length bytes)
-  pub leaves : after ≡ leftBy (writeFault direction (length bytes) at (length before)) direction at bytes before
+  pub answers : r ≡ writtenOf direction at bytes before
+  pub leaves : after ≡ leftOf direction at bytes before
+
+-- a record with these bytes and the direction of this number is read at a place, and the next stands behind it
+pub record ReadsAt (recording : List ℕ) (at direction : ℕ) (bytes : List ℕ) (behind : ℕ) : Type 0 where
+  pub which : Direction
+  pub number : direction ≡ directionNumber which
+  pub found : foundAt recording at ≡ Is which (record { from = at + headLength; to = behind })
+  pub contents : bytesIn (record { from = at + headLength; to = behind }) recording ≡ bytes
+
+-- records written one behind the other from a place on, each by a call
+pub data WroteAll : List Record → ℕ → List ℕ → ℕ → List ℕ → Type 0 where
+  none-written : (at : ℕ) (buffer : List ℕ) → WroteAll [] at buffer at buffer
+  one-written : (r : Record) (rs : List Record) (at next to : ℕ) (before between after : List ℕ)
+      → Wrote (directionNumber (directionOf r)) at (payload r) before between (Behind next) → WroteAll rs next between to after
+      → WroteAll (r ∷ rs) at before to after

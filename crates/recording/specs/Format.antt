@@ -50,6 +50,9 @@ directionCheck direction = not (isKnown (directedOf direction)) gives BadDirecti
 abbrev pub lengthCheck : ℕ → ℕ → Check Fault
 lengthCheck direction n = not (lengthAllowed direction n) gives BadLength
 
+abbrev pub rules : ℕ → ℕ → List (Check Fault)
+rules direction n = directionCheck direction ∷ lengthCheck direction n ∷ []
+
 -- why a record is not read or not written, as a number; 0 is no fault's
 abbrev pub faultNumber : Fault → ℕ
 faultNumber BadMark = 1

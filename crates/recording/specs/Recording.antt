@@ -74,6 +74,10 @@ foundNumber (Is direction part) = directionNumber direction
 foundNumber End = endNumber
 foundNumber (Refused fault) = faultNumber fault
 
+-- bytes that a recording has at a place
+abbrev pub HasAt : List ℕ → ℕ → List ℕ → Type 0
+HasAt recording at bytes = take (length bytes) (drop at recording) ≡ bytes
+
 abbrev pub bytesIn : Part → List ℕ → List ℕ
 bytesIn part recording = take (part .to - part .from) (drop (part .from) recording)
 

@@ -8,8 +8,7 @@ use native.Mathlib.Omega.{arith}
 use lib.Dec.{eqb}
 use lib.ListN.{length, getD}
 use borrow.Author.Tests.{eqb-true}
-use Rattle.numbers.specs.Bytes.{number, bytesOf}
-use Rattle.numbers.proofs.RoundTrip.{AllBytes}
+use Rattle.numbers.specs.Bytes.{number, bytesOf, AllBytes}
 use Rattle.baud.specs.declared.LineSetting.{LineSetting}
 use Rattle.state.specs.declared.Pulse.the-variants.{Zero, One, Acknowledged}
 use Rattle.state.specs.declared.Range.{Range}

@@ -3,8 +3,8 @@ use mathlib.Core.Path.{_≡_, sym, ap, _∙_}
 use Prim.Native.Nat.{ℕ, zero, suc, _%_, _^_}
 use native.Mathlib.Omega.{arith}
 use lib.ListN.{length}
-use Rattle.numbers.specs.Bytes.{number, bytesOf}
-use Rattle.numbers.proofs.RoundTrip.{AllBytes, bytes-length, number-bytes, bytes-number}
+use Rattle.numbers.specs.Bytes.{number, bytesOf, AllBytes}
+use Rattle.numbers.proofs.RoundTrip.{bytes-length, number-bytes, bytes-number}
 
 pub all-bytes : (w n : ℕ) → AllBytes (bytesOf w n)
 unfolding bytesOf AllBytes
