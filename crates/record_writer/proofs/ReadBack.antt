@@ -8,7 +8,7 @@ use Prim.Native.Nat.{ℕ, _+_, _-_, _≤_}
 use native.Mathlib.Omega.{arith}
 use lib.ListN.{length, take, drop, length-append, length-drop}
 use lib.Dec.{leb}
-use lib.Seq.{length-take-le, take-at, drop-at, take-append-add, drop-append-add, take-append-seam}
+use lib.Seq.{length-take-le, take-length, take-at, drop-at, take-append-add, drop-append-add, take-append-seam}
 use borrow.Author.Tests.{leb-true, le-leb, not-false}
 use Rattle.numbers.specs.Bytes.{AllBytes}
 use Rattle.verdict.specs.Check.{Check, firstFault, NoneApplies, IsFirst}
@@ -26,7 +26,7 @@ use Rattle.recording.specs.Recording.{directionAt, countAt, partAt, foundAt, Ha
 use Rattle.recording.proofs.Laws.{directed-number, directed-back}
 use Rattle.recording.proofs.Written.{entry-length, entry-found, entry-bytes, reads-back, reads-whole}
 use Rattle.recording.proofs.Exactly.{record-tells}
-use Rattle.recording.proofs.Back.{whole-back}
+use Rattle.recording.proofs.Back.{read-allowed, read-entry, entry-read, entry-read-bytes, whole-back}
 use Rattle.record_writer.specs.declared.Written.{Written}
 use Rattle.record_writer.specs.declared.Written.the-variants.{Behind, Refused}
 use Rattle.record_writer.specs.Writing.{writeChecks, writtenBy, leftBy, Wrote, ReadsAt, WroteAll, none-written, one-written}
@@ -137,6 +137,16 @@ all-left _ _ _ _ _ (one-written r rs at next to before between after w more) =
       rest .1 ∙ ap (λ (l : List ℕ). l ++ written rs) here ∙ append-assoc (take at before) (entry direction (payload r)) (written rs),
     )
 
+-- and reaches up to the place that the last call answered
+pub all-place : (rs : List Record) (at : ℕ) (before : List ℕ) (to : ℕ) (after : List ℕ) → WroteAll rs at before to after → to ≡ at + length (written rs)
+unfolding written
+all-place _ _ _ _ _ (none-written at buffer) = omega arith
+all-place _ _ _ _ _ (one-written r rs at next to before between after w more) =
+    let direction : ℕ = directionNumber (directionOf r) in
+    let rest : to ≡ next + length (written rs) = all-place rs next between to after more in
+    let here : next ≡ at + headLength + length (payload r) = place-behind direction at (payload r) before between (Behind next) w next refl in
+    omega (arith, length-append (entryOf r) (written rs), entry-length direction (payload r))
+
 -- from the front on they read back, to the end
 module _ (rs : List Record) (before : List ℕ) (to : ℕ) (after : List ℕ) (all : WroteAll rs 0 before to after) where
   pub all-bytes-written : take to after ≡ written rs
@@ -145,13 +155,38 @@ module _ (rs : List Record) (before : List ℕ) (to : ℕ) (after : List ℕ) (a
   pub all-read-back : recordsOf (take to after) ≡ rs
   all-read-back = ap recordsOf all-bytes-written ∙ reads-back rs (all-left rs 0 before to after all .0)
 
-  pub all-read-whole : extentOf (take to after) ≡ record { count = length (written rs); ended = Whole }
-  all-read-whole = ap extentOf all-bytes-written ∙ reads-whole rs (all-left rs 0 before to after all .0)
+  pub all-read-whole : extentOf (take to after) ≡ record { count = to; ended = Whole }
+  all-read-whole =
+      let place : length (written rs) ≡ to = omega (arith, all-place rs 0 before to after all) in
+      ap extentOf all-bytes-written ∙ reads-whole rs (all-left rs 0 before to after all .0) ∙ ap (λ (n : ℕ). record { count = n; ended = Whole }) place
 
 -- the records of a recording that reads to its end, written again, are its bytes
 pub same-again : (recording : List ℕ) → AllBytes recording → extentOf recording .ended ≡ Whole → (before : List ℕ) (to : ℕ) (after : List ℕ)
     → WroteAll (recordsOf recording) 0 before to after → take to after ≡ recording
 same-again recording bytes whole before to after all = all-bytes-written (recordsOf recording) before to after all ∙ whole-back recording bytes whole
+
+-- a record is read exactly where its bytes stand and no rule applies
+module _ (s : List ℕ) (at direction : ℕ) (bytes : List ℕ) where
+  abbrev behind : ℕ
+  behind = at + headLength + length bytes
+
+  pub reads-entry : AllBytes s → ReadsAt s at direction bytes behind → NoneApplies (rules direction (length bytes)) × HasAt s at (entry direction bytes)
+  unfolding NoneApplies
+  reads-entry all a =
+      let allowed : lengthAllowed direction (length bytes) ≡ true = rw (a .number, ← a .contents) (read-allowed s at (a .which) _ (a .found)) in
+      let known : isKnown (directedOf direction) ≡ true = rw (a .number) (ap isKnown (directed-back (a .which))) in
+      ((ap not known, (ap not allowed, tt)), rw (a .number, ← a .contents) (read-entry s at (a .which) _ (a .found) all))
+
+  pub entry-reads : NoneApplies (rules direction (length bytes)) → HasAt s at (entry direction bytes) → ReadsAt s at direction bytes behind
+  unfolding NoneApplies
+  entry-reads h there = known-is (directedOf direction) (not-false _ (h .0)) (ReadsAt s at direction bytes behind) by
+    where
+      by : (d : Direction) → directedOf direction ≡ Known d → ReadsAt s at direction bytes behind
+      by d k =
+          let number : direction ≡ directionNumber d = directed-number direction d k in
+          let allowed : lengthAllowed (directionNumber d) (length bytes) ≡ true = rw (← number) (not-false _ (h .1 .0)) in
+          let stands : HasAt s at (entry (directionNumber d) bytes) = rw (← number) there in
+          record { which = d; number = number; found = entry-read s at d bytes allowed stands; contents = entry-read-bytes s at d bytes allowed stands }
 
 module _ (direction : ℕ) (bytes : List ℕ) where
   abbrev alone : List ℕ
@@ -180,16 +215,4 @@ module _ (direction : ℕ) (bytes : List ℕ) where
           (ap not known, (ap not allowed, tt))
 
       written-alone : NoneApplies (rules direction (length bytes)) → ReadsAt alone 0 direction bytes end
-      written-alone h = known-is (directedOf direction) (not-false _ (h .0)) (ReadsAt alone 0 direction bytes end) by
-        where
-          by : (d : Direction) → directedOf direction ≡ Known d → ReadsAt alone 0 direction bytes end
-          by d k =
-              let number : direction ≡ directionNumber d = directed-number direction d k in
-              let allowed : lengthAllowed (directionNumber d) (length bytes) ≡ true = rw (← number) (not-false _ (h .1 .0)) in
-              let plain : entry (directionNumber d) bytes ++ [] ≡ alone = rw (← number) (append-nil alone) in
-              record {
-                which = d;
-                number = number;
-                found = rw plain at (entry-found [] d bytes [] allowed);
-                contents = rw plain at (entry-bytes [] d bytes [] allowed);
-              }
+      written-alone h = entry-reads alone 0 direction bytes h (take-length alone)
