@@ -7,7 +7,8 @@ use native.Mathlib.Omega.{arith}
 use lib.ListN.{length}
 use Rattle.profile.specs.declared.Profile.{Profile}
 use Rattle.profile.specs.Areas.{areasOf}
-use Rattle.recording.specs.Recording.{recordsOf}
+use Rattle.recording.specs.declared.Extent.{Extent}
+use Rattle.recording.specs.Recording.{recordsOf, endedNumber}
 use Rattle.record_exchange.specs.Line.{Entry, exchangesOf}
 use Rattle.record_replay.specs.Replay.{replay}
 use Rattle.record_replay.specs.Post.{Played}
@@ -25,7 +26,7 @@ module _ (profile recording before : List ℕ) (p : Profile) (q : p ≡ profileI
   first : begun .refusal ≡ startRefusal (profileIn profile) (length before)
   first = ap (λ (x : Started). x .refusal) e ∙ ap (λ (x : Profile). startRefusal x (length before)) q
 
-  pub left : isAccepted (begun .refusal) ≡ false → (r : ℕ) → r ≡ numberOf (begun .refusal) → Replayed profile recording before before r 0
+  pub left : isAccepted (begun .refusal) ≡ false → (r : ℕ) → r ≡ numberOf (begun .refusal) → Replayed profile recording before before r 0 0
   left f r m =
       let g : isAccepted (startRefusal (profileIn profile) (length before)) ≡ false = ap isAccepted (sym first) ∙ f in
       let never : startRefusal (profileIn profile) (length before) ≡ Accepted → ⊥ =
@@ -34,20 +35,22 @@ module _ (profile recording before : List ℕ) (p : Profile) (q : p ≡ profileI
         number = m ∙ ap numberOf first;
         image = simp g;
         count = simp g;
-        own = λ ok es c i. absurd (never ok);
+        why = simp g;
+        own = λ ok es f i. absurd (never ok);
         strays = λ ok a b stray h i. absurd (never ok);
       }
 
-  pub replayed : isAccepted (begun .refusal) ≡ true → (after : List ℕ) (read : ℕ) → Played p recording before after read
-      → Replayed profile recording before after 0 read
-  replayed t after read played =
+  pub replayed : isAccepted (begun .refusal) ≡ true → (after : List ℕ) (extent : Extent) → Played p recording before after extent
+      → (ended : ℕ) → ended ≡ endedNumber (extent .ended) → Replayed profile recording before after 0 (extent .count) ended
+  replayed t after extent played ended n =
       let a : startRefusal (profileIn profile) (length before) ≡ Accepted = sym first ∙ is-accepted (begun .refusal) t in
       let same : (es : List Entry) → replay (areasOf p) before es ≡ replay (areasOf (profileIn profile)) before es =
       λ es. ap (λ (x : Profile). replay (areasOf x) before es) q in
       record {
         number = rw a refl;
         image = rw a (played .image ∙ same (exchangesOf (recordsOf recording)));
-        count = rw a (played .read);
-        own = λ ok es c i. played .own es c i ∙ same es;
+        count = rw a (ap (λ (x : Extent). x .count) (played .read));
+        why = rw a (n ∙ ap (λ (x : Extent). endedNumber (x .ended)) (played .read));
+        own = λ ok es f i. played .own es f i ∙ same es;
         strays = λ ok k l stray h i. played .strays k l stray h i ∙ same (exchangesOf (k ++ l));
       }

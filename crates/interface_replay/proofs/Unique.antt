@@ -5,8 +5,8 @@ use Prim.Native.Nat.{ℕ}
 use Rattle.verdict.proofs.OneAnswer.{one-answer}
 use Rattle.interface_replay.specs.Post.{Replayed}
 
--- the same number, the same image, the same count
-pub replayed-once : (profile recording before after after′ : List ℕ) (r r′ read read′ : ℕ) → Replayed profile recording before after r read
-    → Replayed profile recording before after′ r′ read′ → (r ≡ r′) × ((after ≡ after′) × (read ≡ read′))
-replayed-once profile recording before after after′ r r′ read read′ a b =
-    (one-answer (a .number) (b .number), (one-answer (a .image) (b .image), one-answer (a .count) (b .count)))
+-- the same number, the same image, the same count and the same reason
+pub replayed-once : (profile recording before after after′ : List ℕ) (r r′ read read′ ended ended′ : ℕ) → Replayed profile recording before after r read ended
+    → Replayed profile recording before after′ r′ read′ ended′ → (r ≡ r′) × (after ≡ after′) × (read ≡ read′) × (ended ≡ ended′)
+replayed-once profile recording before after after′ r r′ read read′ ended ended′ a b =
+    (one-answer (a .number) (b .number), one-answer (a .image) (b .image), one-answer (a .count) (b .count), one-answer (a .why) (b .why))

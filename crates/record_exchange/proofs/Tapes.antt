@@ -6,8 +6,10 @@ use mathlib.Core.Path.{_≡_, refl, sym, ap, _∙_}
 use Prim.Native.Nat.{ℕ}
 use lib.ListN.{length}
 use Rattle.packet.proofs.Laws.{impossible}
-use Rattle.recording.specs.Recording.{Record, host, device, reset, recordsOf, readable, written, Countable}
-use Rattle.recording.proofs.Written.{reads-back, all-readable}
+use Rattle.recording.specs.declared.Ended.the-variants.{Whole}
+use Rattle.recording.specs.Format.{Record, host, device, reset, written, AllFormed}
+use Rattle.recording.specs.Recording.{recordsOf, extentOf}
+use Rattle.recording.proofs.Written.{reads-back, reads-whole}
 use Rattle.record_exchange.specs.Line.{Entry, exchange, restart, exchangesFrom, exchangesOf, taped, beginsDevice, endsHost, Stray}
 
 -- what a line's record makes is that record again
@@ -17,13 +19,13 @@ taped-back [] = refl
 taped-back (exchange q reply ∷ es) = ap (λ (l : List Entry). exchange q reply ∷ l) (taped-back es)
 taped-back (restart ∷ es) = ap (λ (l : List Entry). restart ∷ l) (taped-back es)
 
--- and so is what its bytes give, all of which can be read
-module _ (es : List Entry) (c : Countable (taped es)) where
+-- and so is what its bytes give, which are read to the end
+module _ (es : List Entry) (formed : AllFormed (taped es)) where
   pub tape-back : exchangesOf (recordsOf (written (taped es))) ≡ es
-  tape-back = ap exchangesOf (reads-back (taped es) c) ∙ taped-back es
+  tape-back = ap exchangesOf (reads-back (taped es) formed) ∙ taped-back es
 
-  pub tape-readable : readable (written (taped es)) ≡ length (written (taped es))
-  tape-readable = all-readable (taped es) c
+  pub tape-whole : extentOf (written (taped es)) ≡ record { count = length (written (taped es)); ended = Whole }
+  tape-whole = reads-whole (taped es) formed
 
 -- what waits behind records
 unfoldable waitsBehind : Option (List ℕ) → List Record → Option (List ℕ)

@@ -4,7 +4,7 @@ use mathlib.Core.List.{List, [], _∷_}
 use mathlib.Core.Option.{Option, none, some}
 use mathlib.Core.Path.{_≡_}
 use Prim.Native.Nat.{ℕ}
-use Rattle.recording.specs.Recording.{Record, host, device, reset}
+use Rattle.recording.specs.Format.{Record, host, device, reset}
 
 -- a complete packet with its reply, or the three bytes of an early refusal with theirs; a reset
 pub data Entry : Type 0 where
