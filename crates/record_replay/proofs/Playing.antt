@@ -11,8 +11,8 @@ use lib.Dec.{leb}
 use borrow.Author.Tests.{leb-true}
 use denote.Enum.Declared.{tagOf}
 use Rattle.numbers.specs.declared.Number.the-variants.{Is as Number, CutShort as NumberCut}
-use Rattle.numbers.specs.Bytes.{number, field, numberAt}
-use Rattle.numbers.proofs.RoundTrip.{AllBytes, number-below}
+use Rattle.numbers.specs.Bytes.{number, field, numberAt, AllBytes}
+use Rattle.numbers.proofs.RoundTrip.{number-below, all-bytes, all-drop, all-take}
 use Rattle.profile.specs.declared.Profile.{Profile}
 use Rattle.profile.specs.Areas.{areasOf}
 use Rattle.packet_fields.specs.Fields.{valueOf, fourAt}
@@ -38,24 +38,6 @@ use Rattle.record_replay.specs.declared.Waiting.{Waiting}
 use Rattle.record_replay.specs.declared.Waiting.the-variants.{Nothing, For}
 use Rattle.record_replay.specs.Replay.{Tape, entryReplay, replayFrom, replay}
 use Rattle.record_replay.specs.Post.{LandsBelow, playedFrom, WaitsBefore, HeadIn, Advanced, Played}
-
--- bytes in a list, behind a place and before one
-all-bytes : (l : List ℕ) → ((i : ℕ) → getD l i 0 < 256) → AllBytes l
-unfolding AllBytes
-all-bytes [] h = tt
-all-bytes (b ∷ bs) h = (h zero, all-bytes bs (λ i. h (suc i)))
-
-all-drop : (n : ℕ) (l : List ℕ) → AllBytes l → AllBytes (drop n l)
-unfolding AllBytes
-all-drop zero l h = h
-all-drop (suc n) [] h = h
-all-drop (suc n) (b ∷ bs) h = all-drop n bs (h .1)
-
-all-take : (n : ℕ) (l : List ℕ) → AllBytes l → AllBytes (take n l)
-unfolding AllBytes
-all-take zero l h = tt
-all-take (suc n) [] h = tt
-all-take (suc n) (b ∷ bs) h = (h .0, all-take n bs (h .1))
 
 -- four bytes make a u32
 four-low : (q : List ℕ) → AllBytes q → fourAt q 4 ≤ 4294967295
