@@ -10,7 +10,10 @@ use Rattle.profile_bytes.specs.Profile.{profileIn}
 use Rattle.state.specs.declared.State.{State}
 use Rattle.state.specs.State.{freshState, zeroState}
 use Rattle.state_bytes.specs.State.{stateIn, stateBytes, stateOver}
-use Rattle.recording.specs.Recording.{recordsOf, readable}
+use Rattle.recording.specs.declared.Ended.the-variants.{Not}
+use Rattle.recording.specs.Recording.{recordsOf, extentOf, endedNumber}
+use Rattle.recording.proofs.Reading.{stops-over}
+use Rattle.recording.proofs.Numbers.{ended-once}
 use Rattle.record_exchange.specs.Line.{exchangesOf}
 use Rattle.record_replay.specs.Replay.{replay}
 use Rattle.device_calls.specs.declared.Row.{Row}
@@ -20,7 +23,8 @@ use Rattle.device_calls.specs.Calls.{buffers, rowNumber, numberOf, startRows, f
 use Rattle.device_steps.specs.Feed.{Delivery}
 use Rattle.interface.specs.Calls.{LentBytes, startingRows, stateRows, feedingRows, startingRefusal, feedingRefusal}
 use Rattle.interface.specs.Post.{Numbers, StartedBytes, ResetBytes, resetOver, deliveryOf, RanBytes, UnfedBytes, FedBytes, FeedsBytes}
-use Rattle.interface_replay.specs.Post.{imageBy, readBy, Replayed}
+use Rattle.interface_replay.specs.Post.{imageBy, extentBy, Replayed}
+use Rattle.interface_record.proofs.Tells.{record-told, end-told, fault-told, place-stays, read-answered, written-told, unwritten-told, written-place, write-answered}
 use Rattle.demands.specs.Outside.{NumberedBy, Outside}
 use Rattle.demands.proofs.Rows.{by-rows, refusal-once}
 
@@ -97,7 +101,7 @@ module _ (profile image before after : List ℕ) (r : ℕ) where
   reset-refused s z = s .state ∙ where-refused over begins (s .number) before (λ row. refl) z
 
 -- replaying
-module _ (profile recording before after : List ℕ) (r read : ℕ) (s : Replayed profile recording before after r read) where
+module _ (profile recording before after : List ℕ) (r read ended : ℕ) (s : Replayed profile recording before after r read ended) where
   abbrev begun : Refusal
   begun = startRefusal (profileIn profile) (length before)
 
@@ -105,14 +109,31 @@ module _ (profile recording before after : List ℕ) (r read : ℕ) (s : Replaye
   image x = imageBy x profile recording before
 
   abbrev count : Refusal → ℕ
-  count x = readBy x recording
+  count x = extentBy x recording .count
 
-  replay-accepted : r ≡ 0 → (after ≡ replay (areasOf (profileIn profile)) before (exchangesOf (recordsOf recording))) × (read ≡ readable recording)
-  replay-accepted z = (s .image ∙ where-accepted image begun (s .number) z, s .count ∙ where-accepted count begun (s .number) z)
+  abbrev why : Refusal → ℕ
+  why x = endedNumber (extentBy x recording .ended)
 
-  replay-refused : (r ≡ 0 → ⊥) → (after ≡ before) × (read ≡ 0)
+  replay-accepted : r ≡ 0 → (after ≡ replay (areasOf (profileIn profile)) before (exchangesOf (recordsOf recording)))
+      × (read ≡ extentOf recording .count) × (ended ≡ endedNumber (extentOf recording .ended))
+  replay-accepted z =
+      (
+        s .image ∙ where-accepted image begun (s .number) z,
+        s .count ∙ where-accepted count begun (s .number) z,
+        s .why ∙ where-accepted why begun (s .number) z,
+      )
+
+  replay-refused : (r ≡ 0 → ⊥) → (after ≡ before) × (read ≡ 0) × (ended ≡ 0)
   replay-refused z =
-      (s .image ∙ where-refused image begun (s .number) before (λ row. refl) z, s .count ∙ where-refused count begun (s .number) 0 (λ row. refl) z)
+      (
+        s .image ∙ where-refused image begun (s .number) before (λ row. refl) z,
+        s .count ∙ where-refused count begun (s .number) 0 (λ row. refl) z,
+        s .why ∙ where-refused why begun (s .number) 0 (λ row. refl) z,
+      )
+
+  -- reading never ends with nothing told
+  replay-ended : (ended ≡ 0) ↔ (r ≡ 0 → ⊥)
+  replay-ended = (λ e z. stops-over recording 0 (ended-once _ Not (sym (replay-accepted z .2) ∙ e)), λ z. replay-refused z .2)
 
 pub outside : Outside
 outside =
@@ -127,7 +148,17 @@ outside =
       feed-accepted = fed-accepted;
       feed-refused = fed-refused;
       same-rows = same-rows;
-      replays = λ profile recording before after r read s. numbered-by _ (s .number);
+      replays = λ profile recording before after r read ended s. numbered-by _ (s .number);
       replay-accepted = replay-accepted;
       replay-refused = replay-refused;
+      replay-ended = replay-ended;
+      read-record = record-told;
+      read-end = end-told;
+      read-fault = fault-told;
+      read-stays = place-stays;
+      write-record = written-told;
+      write-fault = unwritten-told;
+      write-stays = written-place;
+      read-answers = read-answered;
+      write-answers = write-answered;
     }

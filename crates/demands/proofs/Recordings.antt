@@ -1,6 +1,6 @@
 -- The demands on recordings, proved. Assumes nothing.
-use Rattle.record_exchange.proofs.Tapes.{tape-back, tape-readable}
-use Rattle.record_history.proofs.Taped.{own-countable, own-recording}
+use Rattle.record_exchange.proofs.Tapes.{tape-back, tape-whole}
+use Rattle.record_history.proofs.Taped.{own-formed, own-recording}
 use Rattle.demands.specs.Recordings.{OnRecordings}
 use Rattle.demands.proofs.Rows.{by-rows, drive-refusal, drive-ran, drive-undriven}
 
@@ -13,7 +13,9 @@ on-recordings =
           let d = drive-ran p script before after r f e in
           (d .machine, d .image);
       taped-back = λ p acceptable image calls.
-          let countable = own-countable p acceptable image calls in
-          (tape-back _ countable, tape-readable _ countable);
+          let formed = own-formed p acceptable image calls in
+          (formed, tape-back _ formed, tape-whole _ formed);
       played = own-recording;
+      read-driven = λ p script before after r f e. drive-ran p script before after r f e .read;
+      read-played = λ p recording before after r played. played .read;
     }

@@ -3,7 +3,7 @@ use mathlib.Core.List.{List}
 use mathlib.Core.Logic.{_↔_}
 use mathlib.Core.Option.{some}
 use mathlib.Core.Path.{_≡_}
-use Prim.Native.Nat.{ℕ}
+use Prim.Native.Nat.{ℕ, _<_}
 use lib.ListN.{length}
 use Rattle.verdict.specs.Check.{Check, NoneApplies, IsFirst}
 use Rattle.profile.specs.Areas.{areasOf}
@@ -11,7 +11,13 @@ use Rattle.profile_bytes.specs.Profile.{profileIn}
 use Rattle.state.specs.declared.State.{State}
 use Rattle.state.specs.State.{freshState, zeroState}
 use Rattle.state_bytes.specs.State.{stateIn, stateBytes, stateOver}
-use Rattle.recording.specs.Recording.{recordsOf, readable}
+use Rattle.recording.specs.declared.Direction.{Direction}
+use Rattle.recording.specs.declared.Fault.{Fault}
+use Rattle.recording.specs.declared.Found.the-variants.{Is, Refused}
+use Rattle.recording.specs.Format.{directionNumber, faultNumber}
+use Rattle.recording.specs.Recording.{foundAt, endNumber, recordsOf, extentOf, endedNumber}
+use Rattle.record_writer.specs.declared.Written.the-variants.{Behind, Refused as NotWritten}
+use Rattle.record_writer.specs.Writing.{Wrote}
 use Rattle.record_exchange.specs.Line.{exchangesOf}
 use Rattle.record_replay.specs.Replay.{replay}
 use Rattle.device_calls.specs.declared.Row.{Row}
@@ -19,6 +25,7 @@ use Rattle.device_calls.specs.Calls.{buffers, rowNumber, startRows, feedRows}
 use Rattle.interface.specs.Calls.{LentBytes, startingRows, feedingRows}
 use Rattle.interface.specs.Post.{Numbers, StartedBytes, ResetBytes, deliveryOf, RanBytes, UnfedBytes, FeedsBytes}
 use Rattle.interface_replay.specs.Post.{Replayed}
+use Rattle.interface_record.specs.Post.{ReadsBytes, WritesBytes}
 
 -- a number is 0 exactly when no row applies, and a row's exactly when that row is the first that applies
 pub record NumberedBy (rows : List (Check Row)) (n : ℕ) : Type 0 where
@@ -50,9 +57,30 @@ pub record Outside : Type 0 where
   pub same-rows : (profile : List ℕ) (l : LentBytes) (st : State) → stateIn (l .state) ≡ some st
       → feedingRows profile l ≡ feedRows (profileIn profile) st (buffers (l .image) (l .receive) (l .reply))
   -- replaying leaves the replay of the recording's exchanges, or refused nothing
-  pub replays : (profile recording before after : List ℕ) (r read : ℕ) → Replayed profile recording before after r read
+  pub replays : (profile recording before after : List ℕ) (r read ended : ℕ) → Replayed profile recording before after r read ended
       → NumberedBy (startRows (profileIn profile) (length before)) r
-  pub replay-accepted : (profile recording before after : List ℕ) (r read : ℕ) → Replayed profile recording before after r read → r ≡ 0
-      → (after ≡ replay (areasOf (profileIn profile)) before (exchangesOf (recordsOf recording))) × (read ≡ readable recording)
-  pub replay-refused : (profile recording before after : List ℕ) (r read : ℕ) → Replayed profile recording before after r read → (r ≡ 0 → ⊥)
-      → (after ≡ before) × (read ≡ 0)
+  pub replay-accepted : (profile recording before after : List ℕ) (r read ended : ℕ) → Replayed profile recording before after r read ended → r ≡ 0
+      → (after ≡ replay (areasOf (profileIn profile)) before (exchangesOf (recordsOf recording)))
+      × (read ≡ extentOf recording .count) × (ended ≡ endedNumber (extentOf recording .ended))
+  pub replay-refused : (profile recording before after : List ℕ) (r read ended : ℕ) → Replayed profile recording before after r read ended → (r ≡ 0 → ⊥)
+      → (after ≡ before) × (read ≡ 0) × (ended ≡ 0)
+  -- an accepted replay always tells how reading ended: whole, or by which fault; 0 is told by no other
+  pub replay-ended : (profile recording before after : List ℕ) (r read ended : ℕ) → Replayed profile recording before after r read ended → (ended ≡ 0) ↔ (r ≡ 0 → ⊥)
+  -- reading a record: its direction's number and its part, the end's, or a fault's; the place stays where there is no record
+  pub read-record : (recording : List ℕ) (at r from to : ℕ) → ReadsBytes recording at r from to
+      → (d : Direction) → (r ≡ directionNumber d) ↔ (foundAt recording at ≡ Is d (record { from = from; to = to }))
+  pub read-end : (recording : List ℕ) (at r from to : ℕ) → ReadsBytes recording at r from to → (r ≡ endNumber) ↔ (at ≡ length recording)
+  pub read-fault : (recording : List ℕ) (at r from to : ℕ) → ReadsBytes recording at r from to
+      → (fault : Fault) → (r ≡ faultNumber fault) ↔ (foundAt recording at ≡ Refused fault)
+  pub read-stays : (recording : List ℕ) (at r from to : ℕ) → ReadsBytes recording at r from to
+      → ((d : Direction) → r ≡ directionNumber d → ⊥) → (from ≡ at) × (to ≡ at)
+  -- writing a record: its direction, with the place behind it, or a fault's number, and then the place stays
+  pub write-record : (direction at : ℕ) (bytes before after : List ℕ) (r to : ℕ) → WritesBytes direction at bytes before after r to
+      → (d : Direction) → (r ≡ directionNumber d) ↔ ((direction ≡ directionNumber d) × Wrote direction at bytes before after (Behind to))
+  pub write-fault : (direction at : ℕ) (bytes before after : List ℕ) (r to : ℕ) → WritesBytes direction at bytes before after r to
+      → (fault : Fault) → (r ≡ faultNumber fault) ↔ Wrote direction at bytes before after (NotWritten fault)
+  pub write-stays : (direction at : ℕ) (bytes before after : List ℕ) (r to : ℕ) → WritesBytes direction at bytes before after r to
+      → (fault : Fault) → r ≡ faultNumber fault → to ≡ at
+  -- neither ever answers 0
+  pub read-answers : (recording : List ℕ) (at r from to : ℕ) → ReadsBytes recording at r from to → 0 < r
+  pub write-answers : (direction at : ℕ) (bytes before after : List ℕ) (r to : ℕ) → WritesBytes direction at bytes before after r to → 0 < r
