@@ -1,6 +1,7 @@
 -- One record further: what is left to play and where reading stops are the same, and the next landing place stays in reach. Assumes nothing.
 use mathlib.Core.Bool.{Bool, true, false, cond}
 use mathlib.Core.List.{List, [], _∷_}
+use mathlib.Core.Logic.{_⊎_, inl, inr}
 use mathlib.Core.Path.{_≡_, refl, sym, ap, subst, _∙_}
 use Prim.Native.Nat.{ℕ, zero, suc, _+_, _-_, _^_, _≤_, _<_}
 use native.Mathlib.Omega.{arith}
@@ -8,18 +9,24 @@ use lib.ListN.{length, take, drop, getD, length-take, length-drop}
 use lib.Seq.{length-take-le}
 use lib.Dec.{leb}
 use borrow.Author.Tests.{leb-true}
-use Rattle.numbers.specs.declared.Number.the-variants.{Is, CutShort}
+use denote.Enum.Declared.{tagOf}
+use Rattle.numbers.specs.declared.Number.the-variants.{Is as Number, CutShort as NumberCut}
 use Rattle.numbers.specs.Bytes.{number, field, numberAt}
 use Rattle.numbers.proofs.RoundTrip.{AllBytes, number-below}
 use Rattle.profile.specs.declared.Profile.{Profile}
 use Rattle.profile.specs.Areas.{areasOf}
 use Rattle.packet_fields.specs.Fields.{valueOf, fourAt}
+use Rattle.recording.specs.declared.Direction.{Direction}
+use Rattle.recording.specs.declared.Direction.the-variants.{Host, Device, Reset}
 use Rattle.recording.specs.declared.Part.{Part}
 use Rattle.recording.specs.declared.Found.{Found}
-use Rattle.recording.specs.declared.Found.the-variants.{Host, Device, Reset, End, Unreadable}
-use Rattle.recording.specs.Recording.{Record, foundAt, bytesIn, recordsFrom, recordsOf, stopFrom, readable, LiesBehind}
-use Rattle.recording.proofs.Reading.{found-host, found-device, found-reset, records-host, records-device, records-reset, stop-host, stop-device, stop-reset, records-end, records-unreadable, stop-end, stop-unreadable}
-use Rattle.recording.proofs.Laws.{found-end}
+use Rattle.recording.specs.declared.Found.the-variants.{Is, End, Refused}
+use Rattle.recording.specs.declared.Ended.{Ended}
+use Rattle.recording.specs.declared.Extent.{Extent}
+use Rattle.recording.specs.Format.{Record}
+use Rattle.recording.specs.Recording.{foundAt, bytesIn, recordsOf, stopFrom, readable, endedBy, extentOf}
+use Rattle.recording.proofs.Found.{the-type}
+use Rattle.recording.proofs.Reading.{found-lies, records-next, stop-next, Over, records-over, stop-over, extent-is}
 use Rattle.record_exchange.specs.declared.Landing.{Landing}
 use Rattle.record_exchange.specs.declared.Landing.the-variants.{Nowhere, At}
 use Rattle.record_exchange.specs.Exchange.{dataTold, exchangeRead, CanMove}
@@ -30,7 +37,7 @@ use Rattle.record_replay.specs.declared.Head.{Head}
 use Rattle.record_replay.specs.declared.Waiting.{Waiting}
 use Rattle.record_replay.specs.declared.Waiting.the-variants.{Nothing, For}
 use Rattle.record_replay.specs.Replay.{Tape, entryReplay, replayFrom, replay}
-use Rattle.record_replay.specs.Post.{LandsBelow, playedFrom, WaitsBefore, HeadIn, Advanced, Played, isRecord}
+use Rattle.record_replay.specs.Post.{LandsBelow, playedFrom, WaitsBefore, HeadIn, Advanced, Played}
 
 -- bytes in a list, behind a place and before one
 all-bytes : (l : List ℕ) → ((i : ℕ) → getD l i 0 < 256) → AllBytes l
@@ -55,7 +62,7 @@ four-low : (q : List ℕ) → AllBytes q → fourAt q 4 ≤ 4294967295
 unfolding fourAt numberAt
 four-low q h = by (leb 8 (length q)) refl
   where
-    by : (t : Bool) → leb 8 (length q) ≡ t → valueOf (cond t (Is (number (field 4 4 q))) CutShort) ≤ 4294967295
+    by : (t : Bool) → leb 8 (length q) ≡ t → valueOf (cond t (Number (number (field 4 4 q))) NumberCut) ≤ 4294967295
     by true e =
         let w : 8 ≤ length q = leb-true 8 (length q) e in
         let d : 4 ≤ length (drop 4 q) = rw length-drop (omega arith) in
@@ -102,66 +109,58 @@ pub can-move : (landing : Landing) (n k : ℕ) → LandsBelow landing n → n + 
 can-move Nowhere n k h b = tt
 can-move (At x) n k h b = omega arith
 
+-- the head behind a record
+abbrev behind : Part → Landing → Waiting → Head
+behind part landing waiting = record { at = part .to; landing = landing; waiting = waiting }
+
 module _ (p : Profile) (s im : List ℕ) (head : Head) (stands : HeadIn (length s) head) (part : Part) where
+  module _ (direction : Direction) (e : foundAt s (head .at) ≡ Is direction part) where
+    -- one record further
+    advanced : (after : List ℕ) (landing : Landing) (waiting : Waiting)
+        → playedFrom p s after (behind part landing waiting) ≡ playedFrom p s im head → WaitsBefore waiting landing (part .to)
+        → Advanced p s im after head (behind part landing waiting)
+    advanced after landing waiting plays waits =
+        let l = found-lies s (head .at) direction part e in
+        record {
+          plays = plays;
+          stops = sym (stop-next s (head .at) direction part e);
+          stands = record { inside = l .fits; waits = waits };
+          further = omega arith;
+        }
+
+    -- where nothing waits behind it, and the landing place stays
+    passed : playedFrom p s im (behind part (head .landing) Nothing) ≡ playedFrom p s im head → Advanced p s im im head (behind part (head .landing) Nothing)
+    passed plays =
+        let l = found-lies s (head .at) direction part e in
+        advanced im (head .landing) Nothing plays
+        (waits-low (head .waiting) (head .landing) (head .at) (4294967295 + part .to) (stands .waits) (omega arith))
+
   -- what the host sent waits
-  pub host-next : foundAt s (head .at) ≡ Host part → Advanced p s im im head (record { at = part .to; landing = head .landing; waiting = For part })
+  pub host-next : foundAt s (head .at) ≡ Is Host part → Advanced p s im im head (behind part (head .landing) (For part))
   unfolding exchangesFrom
   host-next e =
-      let l : LiesBehind (head .at) (length s) part = found-host s (head .at) part e in
-      record {
-        plays = rw (records-host s (head .at) part e);
-        stops = sym (stop-host s (head .at) part e);
-        stands = record {
-          inside = l .fits;
-          waits = (
-            l .order,
-            omega arith,
-            waits-low (head .waiting) (head .landing) (head .at) (4294967295 + part .from) (stands .waits) (omega arith),
-          );
-        };
-        further = omega arith;
-      }
+      let l = found-lies s (head .at) Host part e in
+      advanced Host e im (head .landing) (For part) (rw (records-next s (head .at) Host part e))
+      (l .order, omega arith, waits-low (head .waiting) (head .landing) (head .at) (4294967295 + part .from) (stands .waits) (omega arith))
 
-  -- where nothing waits behind a record that was read, and the landing place stays
-  passed : LiesBehind (head .at) (length s) part → HeadIn (length s) (record { at = part .to; landing = head .landing; waiting = Nothing })
-  passed l = record {
-    inside = l .fits;
-    waits = waits-low (head .waiting) (head .landing) (head .at) (4294967295 + part .to) (stands .waits) (omega arith);
-  }
-
-  pub reset-next : foundAt s (head .at) ≡ Reset part → Advanced p s im im head (record { at = part .to; landing = head .landing; waiting = Nothing })
+  pub reset-next : foundAt s (head .at) ≡ Is Reset part → Advanced p s im im head (behind part (head .landing) Nothing)
   unfolding exchangesFrom replayFrom entryReplay
-  reset-next e =
-      let l : LiesBehind (head .at) (length s) part = found-reset s (head .at) part e in
-      record {
-        plays = rw (records-reset s (head .at) part e);
-        stops = sym (stop-reset s (head .at) part e);
-        stands = passed l;
-        further = omega arith;
-      }
+  reset-next e = passed Reset e (rw (records-next s (head .at) Reset part e))
 
   -- what the device sent unasked
-  pub device-alone : foundAt s (head .at) ≡ Device part → head .waiting ≡ Nothing
-      → Advanced p s im im head (record { at = part .to; landing = head .landing; waiting = Nothing })
+  pub device-alone : foundAt s (head .at) ≡ Is Device part → head .waiting ≡ Nothing → Advanced p s im im head (behind part (head .landing) Nothing)
   unfolding exchangesFrom
-  device-alone e w =
-      let l : LiesBehind (head .at) (length s) part = found-device s (head .at) part e in
-      record {
-        plays = rw (records-device s (head .at) part e, w);
-        stops = sym (stop-device s (head .at) part e);
-        stands = passed l;
-        further = omega arith;
-      }
+  device-alone e w = passed Device e (rw (records-next s (head .at) Device part e, w))
 
   -- what the device answered
-  pub device-answers : (request : Part) (next : Landing) (after : List ℕ) → foundAt s (head .at) ≡ Device part → head .waiting ≡ For request
+  pub device-answers : (request : Part) (next : Landing) (after : List ℕ) → foundAt s (head .at) ≡ Is Device part → head .waiting ≡ For request
       → ((i : ℕ) → getD s i 0 < 256)
       → record { image = after; landing = next }
       ≡ entryReplay (areasOf p) (exchange (bytesIn request s) (bytesIn part s)) (record { image = im; landing = head .landing })
-      → Advanced p s im after head (record { at = part .to; landing = next; waiting = Nothing })
+      → Advanced p s im after head (behind part next Nothing)
   unfolding exchangesFrom replayFrom entryReplay
   device-answers request next after e w bytes t =
-      let l : LiesBehind (head .at) (length s) part = found-device s (head .at) part e in
+      let l = found-lies s (head .at) Device part e in
       let q = bytesIn request s in
       let h : WaitsBefore (For request) (head .landing) (head .at) = waited stands w in
       let o : request .from ≤ request .to = h .0 in
@@ -169,28 +168,16 @@ module _ (p : Profile) (s im : List ℕ) (head : Head) (stands : HeadIn (length 
       let n : length q ≤ request .to - request .from = part-length request s in
       let all : AllBytes q = all-take (request .to - request .from) (drop (request .from) s) (all-drop (request .from) s (all-bytes s bytes)) in
       let low = exchange-low q (bytesIn part s) (4294967295 + request .from) (4294967295 + part .to) (head .landing) all (omega arith) (omega arith) (h .2) in
-      record {
-        plays = rw (records-device s (head .at) part e, w, t);
-        stops = sym (stop-device s (head .at) part e);
-        stands = record { inside = l .fits; waits = rw (ap (λ (u : Tape). u .landing) t) low };
-        further = omega arith;
-      }
-
--- a record is no end
-apart : true ≡ false → ⊥
-apart e = subst (λ (b : Bool). cond b (Unit {0}) ⊥) e tt
-
-pub no-record : (found other : Found) → found ≡ other → isRecord found ≡ true → isRecord other ≡ false → ⊥
-no-record found other e r n = apart (sym r ∙ ap isRecord e ∙ n)
+      advanced Device e after next Nothing (rw (records-next s (head .at) Device part e, w, t)) (rw (ap (λ (u : Tape). u .landing) t) low)
 
 -- what playing promises of a line's own record and of strays follows from the image
-pub played : (p : Profile) (s im₀ im : List ℕ) (r : ℕ) → im ≡ replay (areasOf p) im₀ (exchangesOf (recordsOf s)) → r ≡ readable s → Played p s im₀ im r
+pub played : (p : Profile) (s im₀ im : List ℕ) (r : Extent) → im ≡ replay (areasOf p) im₀ (exchangesOf (recordsOf s)) → r ≡ extentOf s → Played p s im₀ im r
 played p s im₀ im r e n =
     let gives : List Entry → List ℕ = λ es. replay (areasOf p) im₀ es in
     record {
       image = e;
       read = n;
-      own = λ es c i. e ∙ ap (λ (l : List ℕ). gives (exchangesOf (recordsOf l))) i ∙ ap gives (tape-back es c);
+      own = λ es f i. e ∙ ap (λ (l : List ℕ). gives (exchangesOf (recordsOf l))) i ∙ ap gives (tape-back es f);
       strays = λ a b stray h i. e ∙ ap (λ (l : List Record). gives (exchangesOf l)) i ∙ ap gives (stray-unseen a b stray h);
     }
 
@@ -208,22 +195,18 @@ pub plays-next : {p : Profile} {s im₀ im after : List ℕ} {head next : Head} 
     → Plays p s im₀ after next
 plays-next h a k = record { same = a .plays ∙ h .same; stops = a .stops ∙ h .stops; stands = a .stands; kept = k ∙ h .kept }
 
-module _ (p : Profile) (s im₀ im : List ℕ) (head : Head) (h : Plays p s im₀ im head) where
-  -- nothing is left to play
-  over : recordsFrom s (head .at) ≡ [] → stopFrom s (head .at) ≡ head .at → Played p s im₀ im (head .at)
-  unfolding replay replayFrom exchangesFrom
-  over r e = played p s im₀ im (head .at) (ap (λ (t : Tape). t .image) (rw r at (h .same))) (sym e ∙ h .stops)
+-- what a match finds behind its first variant is no record
+pub over-by : (found : Found) → (tagOf the-type found ≡ 1) ⊎ (tagOf the-type found ≡ 2) → Over found
+over-by (Is direction part) (inl k) n = omega arith
+over-by (Is direction part) (inr k) n = omega arith
+over-by End k n = let z : _≡_ {A = ℕ} 0 1 = cc in omega arith
+over-by (Refused fault) k n = let z : _≡_ {A = ℕ} 0 1 = cc in omega arith
 
-  -- no record stands there
-  pub plays-over : (found : Found) → foundAt s (head .at) ≡ found → isRecord found ≡ false → Played p s im₀ im (head .at)
-  plays-over (Host part) e n = absurd (apart n)
-  plays-over (Device part) e n = absurd (apart n)
-  plays-over (Reset part) e n = absurd (apart n)
-  plays-over End e n = over (records-end s (head .at) e) (stop-end s (head .at) e)
-  plays-over Unreadable e n = over (records-unreadable s (head .at) e) (stop-unreadable s (head .at) e)
-
-  pub plays-end : length s ≤ head .at → Played p s im₀ im (head .at)
-  plays-end k =
-      let i : head .at ≤ length s = h .stands .inside in
-      let e : head .at ≡ length s = omega arith in
-      plays-over End (sym (found-end s (head .at) e)) refl
+-- where no record stands nothing is left to play
+pub plays-over : {p : Profile} {s im₀ im : List ℕ} {head : Head} {found : Found} {ended : Ended} → Plays p s im₀ im head → found ≡ foundAt s (head .at)
+    → Over found → ended ≡ endedBy found → Played p s im₀ im (record { count = head .at; ended = ended })
+unfolding replay replayFrom exchangesFrom
+plays-over {p} {s} {im₀} {im} {head} h e n i =
+    let over : Over (foundAt s (head .at)) = rw e at n in
+    played p s im₀ im _ (ap (λ (t : Tape). t .image) (rw (records-over s (head .at) over) at (h .same)))
+    (rw (i, e) (sym (extent-is s (head .at) (sym (h .stops) ∙ stop-over s (head .at) over))))

@@ -1,5 +1,4 @@
 -- What playing a recording leaves.
-use mathlib.Core.Bool.{Bool, true, false}
 use mathlib.Core.List.{List, _∷_, _++_}
 use mathlib.Core.Path.{_≡_}
 use mathlib.Core.Option.{Option, none, some}
@@ -7,9 +6,9 @@ use Prim.Native.Nat.{ℕ, _+_, _≤_, _<_}
 use Rattle.profile.specs.declared.Profile.{Profile}
 use Rattle.profile.specs.Areas.{areasOf}
 use lib.ListN.{length}
-use Rattle.recording.specs.declared.Found.{Found}
-use Rattle.recording.specs.declared.Found.the-variants.{Host, Device, Reset, End, Unreadable}
-use Rattle.recording.specs.Recording.{Record, bytesIn, recordsFrom, recordsOf, stopFrom, readable, written, Countable}
+use Rattle.recording.specs.declared.Extent.{Extent}
+use Rattle.recording.specs.Format.{Record, written, AllFormed}
+use Rattle.recording.specs.Recording.{bytesIn, recordsFrom, recordsOf, stopFrom, extentOf}
 use Rattle.record_exchange.specs.Line.{Entry, exchangesFrom, exchangesOf, taped, Stray}
 use Rattle.record_replay.specs.Replay.{Tape, replayFrom, replay}
 use Rattle.record_replay.specs.declared.Head.{Head}
@@ -18,11 +17,11 @@ use Rattle.record_replay.specs.declared.Waiting.the-variants.{Nothing, F
 use Rattle.record_exchange.specs.declared.Landing.{Landing}
 use Rattle.record_exchange.specs.declared.Landing.the-variants.{Nowhere, At}
 
-pub record Played (p : Profile) (recording before after : List ℕ) (r : ℕ) : Type 0 where
+pub record Played (p : Profile) (recording before after : List ℕ) (r : Extent) : Type 0 where
   pub image : after ≡ replay (areasOf p) before (exchangesOf (recordsOf recording))
-  pub read : r ≡ readable recording
+  pub read : r ≡ extentOf recording
   -- a recording that a line's own record makes gives the replay of that record
-  pub own : (es : List Entry) → Countable (taped es) → recording ≡ written (taped es) → after ≡ replay (areasOf p) before es
+  pub own : (es : List Entry) → AllFormed (taped es) → recording ≡ written (taped es) → after ≡ replay (areasOf p) before es
   -- a record that is no half of a pair does nothing: without it the image is the same
   pub strays : (a b : List Record) (stray : Record) → Stray a stray b → recordsOf recording ≡ a ++ stray ∷ b
       → after ≡ replay (areasOf p) before (exchangesOf (a ++ b))
@@ -57,10 +56,3 @@ pub record Advanced (p : Profile) (recording im₀ im : List ℕ) (head r : Head
   pub stops : stopFrom recording (r .at) ≡ stopFrom recording (head .at)
   pub stands : HeadIn (length recording) r
   pub further : head .at < r .at
-
-abbrev pub isRecord : Found → Bool
-isRecord (Host part) = true
-isRecord (Device part) = true
-isRecord (Reset part) = true
-isRecord End = false
-isRecord Unreadable = false

@@ -1,17 +1,19 @@
 // A recorded line, played on an image.
-ghost use mathlib.Core.Bool.{true};
 ghost use mathlib.Core.Path.{_≡_};
 ghost use lib.ListN.{length};
-ghost use Rattle.recording.specs.declared.Found.the-variants.{Device};
+ghost use Rattle.recording.specs.declared.Direction.the-variants.{Device};
+ghost use Rattle.recording.specs.declared.Found.the-variants.{Is};
 ghost use Rattle.recording.specs.Recording.{foundAt};
 ghost use Rattle.profile.specs.Areas.{areasOf};
 ghost use Rattle.record_exchange.specs.Exchange.{CanMove};
 ghost use Rattle.record_exchange.specs.Line.{exchange};
 ghost use Rattle.record_replay.specs.Replay.{entryReplay};
-ghost use Rattle.record_replay.specs.Post.{HeadIn, Advanced, Played, isRecord};
+ghost use Rattle.record_replay.specs.Post.{HeadIn, Advanced, Played};
 use profile::Profile;
 use record_exchange::Landing;
 use record_exchange::read_exchange;
+use recording::Direction;
+use recording::Extent;
 use recording::Found;
 use recording::Part;
 
@@ -26,19 +28,6 @@ struct Head {
     at: usize,
     landing: Landing,
     waiting: Waiting,
-}
-
-// Whether there is a record.
-fn is_record(found: Found) -> bool
-    ensures { λ r. ⌜ r ≡ isRecord found ⌝ }
-{
-    match found {
-        Found::Host(_) => true,
-        Found::Device(_) => true,
-        Found::Reset(_) => true,
-        Found::End => false,
-        Found::Unreadable => false,
-    }
 }
 
 // An exchange: what it tells of is done on the image; where the next write data lands.
@@ -60,7 +49,7 @@ fn replay_exchange(
 
 // What the device sent answers what waits.
 fn answered(image: &mut [u8], profile: Profile, recording: &[u8], head: Head, part: Part) -> Head
-    requires { ⌜ HeadIn (length (now recording)) head × (foundAt (now recording) (head .at) ≡ Device part) ⌝ }
+    requires { ⌜ HeadIn (length (now recording)) head × (foundAt (now recording) (head .at) ≡ Is Device part) ⌝ }
     ensures { λ r. ⌜ Advanced profile (now (recording .entry)) (now (image .entry)) (now (image .exit)) head r ⌝ }
 {
     let landing = head.landing;
@@ -92,20 +81,27 @@ fn answered(image: &mut [u8], profile: Profile, recording: &[u8], head: Head, pa
     }
 }
 
-// One record; without one nothing is left to play.
-fn advance(image: &mut [u8], profile: Profile, recording: &[u8], head: Head, found: Found) -> Head
-    requires { ⌜ HeadIn (length (now recording)) head × (found ≡ foundAt (now recording) (head .at)) × (isRecord found ≡ true) ⌝ }
+// One record.
+fn advance(
+    image: &mut [u8],
+    profile: Profile,
+    recording: &[u8],
+    head: Head,
+    direction: Direction,
+    part: Part,
+) -> Head
+    requires { ⌜ HeadIn (length (now recording)) head × (foundAt (now recording) (head .at) ≡ Is direction part) ⌝ }
     ensures { λ r. ⌜ Advanced profile (now (recording .entry)) (now (image .entry)) (now (image .exit)) head r ⌝ }
 {
     let landing = head.landing;
-    match found {
-        Found::Host(part) => Head {
+    match direction {
+        Direction::Host => Head {
             at: part.to,
             landing,
             waiting: Waiting::For(part),
         },
-        Found::Device(part) => answered(image, profile, recording, head, part),
-        Found::Reset(part) => {
+        Direction::Device => answered(image, profile, recording, head, part),
+        Direction::Reset => {
             let stays = head.landing;
             Head {
                 at: part.to,
@@ -113,13 +109,11 @@ fn advance(image: &mut [u8], profile: Profile, recording: &[u8], head: Head, fou
                 waiting: Waiting::Nothing,
             }
         }
-        Found::End => head,
-        Found::Unreadable => head,
     }
 }
 
-// Plays a recording on an image, and says how many of its bytes could be read: all, unless there is a record that cannot be.
-pub fn play(image: &mut [u8], profile: Profile, recording: &[u8]) -> usize
+// Plays a recording on an image, and says how many of its bytes were read, and why no more.
+pub fn play(image: &mut [u8], profile: Profile, recording: &[u8]) -> Extent
     ensures { λ r. ⌜ Played profile (now (recording .entry)) (now (image .entry)) (now (image .exit)) r ⌝ }
 {
     let mut head = Head {
@@ -127,12 +121,14 @@ pub fn play(image: &mut [u8], profile: Profile, recording: &[u8]) -> usize
         landing: Landing::Nowhere,
         waiting: Waiting::Nothing,
     };
-    while head.at < recording.len() {
+    loop {
         let found = recording::record_at(recording, head.at);
-        if !is_record(found) {
-            return head.at;
-        }
-        head = advance(image, profile, recording, head, found);
+        let Found::Is(direction, part) = found else {
+            return Extent {
+                count: head.at,
+                ended: recording::ended_by(found),
+            };
+        };
+        head = advance(image, profile, recording, head, direction, part);
     }
-    head.at
 }
