@@ -13,16 +13,8 @@ use Rattle.device_calls.specs.Ready.{Ready}
 use Rattle.device_calls.proofs.Rows.{start-accepts}
 use Rattle.device_steps.specs.Step.{Machine, machineOf}
 use Rattle.device.proofs.NextCall.{fresh-ready}
-use Rattle.recording.specs.declared.Found.{Found}
-use Rattle.record_history.specs.History.{freshOf, machineAfter, bufferAfter}
-use Rattle.record_driver.specs.Stands.{Stands, callsAt}
-
--- a record by what was found
-pub called : (m : Machine) (buffer script : List ℕ) {p : Profile} {st : State} {l : Lent} {found f : Found} → found ≡ f
-    → Stands p (machineAfter p m (callsAt script f)) (bufferAfter p m (callsAt script f) buffer) st l
-    → Stands p (machineAfter p m (callsAt script found)) (bufferAfter p m (callsAt script found) buffer) st l
-called m buffer script {p} {st} {l} e s =
-    subst (λ (x : Found). Stands p (machineAfter p m (callsAt script x)) (bufferAfter p m (callsAt script x) buffer) st l) (sym e) s
+use Rattle.record_history.specs.History.{freshOf}
+use Rattle.record_driver.specs.Stands.{Stands}
 
 -- calls that led to this machine and these replies; no call leads to where it begins
 pub stands-at : {p : Profile} {st : State} {l : Lent} {m : Machine} {replies : List ℕ} → Ready p st l → m ≡ machineOf st l → replies ≡ l .reply

@@ -20,7 +20,7 @@ use Rattle.device_steps.specs.Step.{machineOf}
 use Rattle.device_steps.specs.Feed.{feedOf}
 use Rattle.device.specs.declared.Fed.{Fed}
 use Rattle.device.specs.Post.{FedBy, Feeds}
-use Rattle.recording.specs.Recording.{recordsOf}
+use Rattle.recording.specs.Recording.{recordsOf, unread}
 use Rattle.record_history.specs.History.{freshOf, callsOf}
 use Rattle.record_history.proofs.Replayed.{replayed}
 use Rattle.record_driver.specs.declared.Driven.{Driven}
@@ -47,7 +47,7 @@ tried (By row) p st before after r f = record { told = ap (λ (x : Fed). x .refu
 
 -- a refused script
 undriven : (refusal : Refusal) (p : Profile) (script : List ℕ) (before after : Lent) (r : Driven) → isAccepted refusal ≡ false
-    → r ≡ record { refusal = refusal; state = startedAt (startRefusal p (length (before .image))) p zeroState; read = 0 } → after ≡ before
+    → r ≡ record { refusal = refusal; state = startedAt (startRefusal p (length (before .image))) p zeroState; read = unread } → after ≡ before
     → DrivenBy refusal p script before after r
 undriven Accepted p script before after r h e l = impossible (cc)
 undriven (By row) p script before after r h e l = record { is = e; lent = l }
@@ -69,13 +69,14 @@ module _ (p : Profile) (l : Lent) {begun : Started} {t : Bool} (e : begun ≡ st
   state = ap (λ (x : Started). x .state) e
 
   -- a refused start
-  pub unstarted : (script : List ℕ) → not t ≡ true → Drives p script l l (record { refusal = begun .refusal; state = begun .state; read = 0 })
-  unstarted script h =
+  pub unstarted : (script : List ℕ) {r : Driven} → not t ≡ true → r ≡ record { refusal = begun .refusal; state = begun .state; read = unread }
+      → Drives p script l l r
+  unstarted script {r} h i =
       let bad : isAccepted first ≡ false = sym begins ∙ not-true t h in
       let same : row ≡ first =
       feed-rows p (freshState p) l ∙ stops (startRows p (length (l .image))) (bufferRows p (freshState p) (l .receive) (length (l .reply))) bad in
-      subst (λ (x : Refusal). DrivenBy x p script l l (record { refusal = begun .refusal; state = begun .state; read = 0 })) (sym same)
-      (undriven first p script l l _ bad (ap (λ (x : Started). record { refusal = x .refusal; state = x .state; read = 0 }) e) refl)
+      subst (λ (x : Refusal). DrivenBy x p script l l r) (sym same)
+      (undriven first p script l l r bad (i ∙ ap (λ (x : Started). record { refusal = x .refusal; state = x .state; read = unread }) e) refl)
 
   -- a start, and a delivery of no bytes
   module _ (y : not t ≡ false) (fed : Fed) (l′ : Lent) (f : Feeds p (begun .state) [] l l′ fed) {u : Bool} (b : u ≡ isAccepted (fed .refusal)) where
@@ -89,11 +90,13 @@ module _ (p : Profile) (l : Lent) {begun : Started} {t : Bool} (e : begun ≡ st
     fed-told = b ∙ ap isAccepted (attempt .told)
 
     -- refused
-    pub unfed : (script : List ℕ) → not u ≡ true → Drives p script l l′ (record { refusal = fed .refusal; state = begun .state; read = 0 })
-    unfed script h =
-        undriven row p script l l′ _ (sym fed-told ∙ not-true u h)
-        (ap (λ (x : Refusal). record { refusal = x; state = begun .state; read = 0 }) (attempt .told)
-        ∙ ap (λ (s : State). record { refusal = row; state = s; read = 0 }) state)
+    pub unfed : (script : List ℕ) {r : Driven} → not u ≡ true → r ≡ record { refusal = fed .refusal; state = begun .state; read = unread }
+        → Drives p script l l′ r
+    unfed script {r} h i =
+        undriven row p script l l′ r (sym fed-told ∙ not-true u h)
+        (i
+        ∙ ap (λ (x : Refusal). record { refusal = x; state = begun .state; read = unread }) (attempt .told)
+        ∙ ap (λ (s : State). record { refusal = row; state = s; read = unread }) state)
         (attempt .lent)
 
     -- accepted

@@ -1,13 +1,14 @@
 // One record of a script, given to a device: a delivery, a reset, or nothing.
+ghost use Prim.Native.Nat.{_≤_};
 ghost use lib.ListN.{length};
 ghost use Rattle.device_calls.specs.Calls.{buffers};
 ghost use Rattle.device_steps.specs.Step.{machineOf};
-ghost use Rattle.recording.specs.Recording.{Inside};
 ghost use Rattle.device_calls.specs.Ready.{Ready};
 ghost use Rattle.record_history.specs.History.{hearing, machineAfter, repliesOver, bufferAfter};
 ghost use Rattle.record_driver.specs.Stands.{Stands, callsAt};
 use profile::Profile;
-use recording::Found;
+use recording::Direction;
+use recording::Part;
 use state::State;
 
 // A delivery, and again what a reply left unread.
@@ -36,7 +37,7 @@ fn deliver(
     st
 }
 
-// A record of a script that was found.
+// A record of a script.
 pub fn call(
     profile: Profile,
     image: &mut [u8],
@@ -44,25 +45,24 @@ pub fn call(
     receive: &mut [u8],
     reply: &mut [u8],
     script: &[u8],
-    found: Found,
+    direction: Direction,
+    part: Part,
 ) -> State
-    requires { ⌜ Ready profile state (buffers (now image) (now receive) (now reply)) × Inside (length (now script)) found ⌝ }
-    ensures { λ r. ⌜ Stands profile (machineAfter profile (machineOf state (buffers (now (image .entry)) (now (receive .entry)) (now (reply .entry)))) (callsAt (now (script .entry)) found))
-        (bufferAfter profile (machineOf state (buffers (now (image .entry)) (now (receive .entry)) (now (reply .entry)))) (callsAt (now (script .entry)) found) (now (reply .entry)))
+    requires { ⌜ Ready profile state (buffers (now image) (now receive) (now reply)) × (part .from ≤ part .to) × (part .to ≤ length (now script)) ⌝ }
+    ensures { λ r. ⌜ Stands profile (machineAfter profile (machineOf state (buffers (now (image .entry)) (now (receive .entry)) (now (reply .entry)))) (callsAt (now (script .entry)) direction part))
+        (bufferAfter profile (machineOf state (buffers (now (image .entry)) (now (receive .entry)) (now (reply .entry)))) (callsAt (now (script .entry)) direction part) (now (reply .entry)))
         r (buffers (now (image .exit)) (now (receive .exit)) (now (reply .exit))) ⌝ }
 {
-    match found {
-        Found::Host(part) => {
+    match direction {
+        Direction::Host => {
             let from = part.from;
             let to = part.to;
             deliver(profile, image, state, receive, reply, &script[from..to])
         }
-        Found::Device(_) => state,
-        Found::Reset(_) => {
+        Direction::Device => state,
+        Direction::Reset => {
             let begun = device::reset(profile, image, state);
             begun.state
         }
-        Found::End => state,
-        Found::Unreadable => state,
     }
 }

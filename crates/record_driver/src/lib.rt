@@ -2,7 +2,7 @@
 mod delivering;
 
 ghost use mathlib.Core.Path.{_≡_};
-ghost use Rattle.recording.specs.Recording.{stopped};
+ghost use Rattle.recording.specs.Recording.{unread};
 ghost use Rattle.device_calls.specs.Calls.{buffers};
 ghost use Rattle.device_steps.specs.Step.{machineOf};
 ghost use Rattle.device_calls.specs.Ready.{Ready};
@@ -10,26 +10,29 @@ ghost use Rattle.record_driver.specs.Post.{DroveOn, Drives};
 use delivering::call;
 use device::Refusal;
 use profile::Profile;
+use recording::Ended;
+use recording::Extent;
 use recording::Found;
 use state::State;
 
-// How a script was driven: the refusal of its first call, the state after the last, and how many bytes of the script could be read.
+// How a script was driven: the refusal of its first call, the state after the last, how far the script was read and why no farther.
 pub struct Driven {
     pub refusal: Refusal,
     pub state: State,
-    pub read: usize,
+    pub read: Extent,
 }
 
-// Where the next record begins; without one, where this is.
-fn behind(found: Found, at: usize) -> usize
-    ensures { λ r. ⌜ r ≡ stopped (λ to. to) at found ⌝ }
+// A script that was not begun.
+fn refused(refusal: Refusal, state: State) -> Driven
+    ensures { λ r. ⌜ r ≡ record { refusal = refusal; state = state; read = unread } ⌝ }
 {
-    match found {
-        Found::Host(part) => part.to,
-        Found::Device(part) => part.to,
-        Found::Reset(part) => part.to,
-        Found::End => at,
-        Found::Unreadable => at,
+    Driven {
+        refusal,
+        state,
+        read: Extent {
+            count: 0,
+            ended: Ended::Not,
+        },
     }
 }
 
@@ -50,16 +53,18 @@ fn run(
     let mut at = 0;
     loop {
         let found = recording::record_at(script, at);
-        let next = behind(found, at);
-        if next == at {
+        let Found::Is(direction, part) = found else {
             return Driven {
                 refusal: Refusal::Accepted,
                 state: st,
-                read: at,
+                read: Extent {
+                    count: at,
+                    ended: recording::ended_by(found),
+                },
             };
-        }
-        st = call(profile, image, st, receive, reply, script, found);
-        at = next;
+        };
+        st = call(profile, image, st, receive, reply, script, direction, part);
+        at = part.to;
     }
 }
 
@@ -78,21 +83,13 @@ pub fn drive(
     let st = begun.state;
     let refusal = begun.refusal;
     if !device::is_accepted(refusal) {
-        return Driven {
-            refusal,
-            state: st,
-            read: 0,
-        };
+        return refused(refusal, st);
     }
     // a delivery of no bytes tells whether the buffers will do
     let first = device::feed(profile, image, st, receive, reply, &script[0..0]);
     let row = first.refusal;
     if !device::is_accepted(row) {
-        return Driven {
-            refusal: row,
-            state: st,
-            read: 0,
-        };
+        return refused(row, st);
     }
     run(profile, image, st, receive, reply, script)
 }

@@ -3,7 +3,7 @@ use mathlib.Core.Bool.{_||_, cond}
 use mathlib.Core.List.{List, [], _∷_, _++_}
 use Prim.Native.Nat.{ℕ}
 use Rattle.profile.specs.declared.Profile.{Profile}
-use Rattle.recording.specs.Recording.{Record, host, device, reset}
+use Rattle.recording.specs.Format.{Record, host, device, reset}
 use Rattle.packet.specs.Frame.{front}
 use Rattle.state.specs.State.{freshState}
 use Rattle.record_exchange.specs.Line.{Entry, exchange, restart}

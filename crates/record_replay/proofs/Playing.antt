@@ -1,7 +1,6 @@
 -- One record further: what is left to play and where reading stops are the same, and the next landing place stays in reach. Assumes nothing.
 use mathlib.Core.Bool.{Bool, true, false, cond}
 use mathlib.Core.List.{List, [], _∷_}
-use mathlib.Core.Logic.{_⊎_, inl, inr}
 use mathlib.Core.Path.{_≡_, refl, sym, ap, subst, _∙_}
 use Prim.Native.Nat.{ℕ, zero, suc, _+_, _-_, _^_, _≤_, _<_}
 use native.Mathlib.Omega.{arith}
@@ -9,7 +8,6 @@ use lib.ListN.{length, take, drop, getD, length-take, length-drop}
 use lib.Seq.{length-take-le}
 use lib.Dec.{leb}
 use borrow.Author.Tests.{leb-true}
-use denote.Enum.Declared.{tagOf}
 use Rattle.numbers.specs.declared.Number.the-variants.{Is as Number, CutShort as NumberCut}
 use Rattle.numbers.specs.Bytes.{number, field, numberAt, AllBytes}
 use Rattle.numbers.proofs.RoundTrip.{number-below, all-bytes, all-drop, all-take}
@@ -20,12 +18,11 @@ use Rattle.recording.specs.declared.Direction.{Direction}
 use Rattle.recording.specs.declared.Direction.the-variants.{Host, Device, Reset}
 use Rattle.recording.specs.declared.Part.{Part}
 use Rattle.recording.specs.declared.Found.{Found}
-use Rattle.recording.specs.declared.Found.the-variants.{Is, End, Refused}
+use Rattle.recording.specs.declared.Found.the-variants.{Is}
 use Rattle.recording.specs.declared.Ended.{Ended}
 use Rattle.recording.specs.declared.Extent.{Extent}
 use Rattle.recording.specs.Format.{Record}
 use Rattle.recording.specs.Recording.{foundAt, bytesIn, recordsOf, stopFrom, readable, endedBy, extentOf}
-use Rattle.recording.proofs.Found.{the-type}
 use Rattle.recording.proofs.Reading.{found-lies, records-next, stop-next, Over, records-over, stop-over, extent-is}
 use Rattle.record_exchange.specs.declared.Landing.{Landing}
 use Rattle.record_exchange.specs.declared.Landing.the-variants.{Nowhere, At}
@@ -176,13 +173,6 @@ plays-start p s im = record { same = refl; stops = refl; stands = record { insid
 pub plays-next : {p : Profile} {s im₀ im after : List ℕ} {head next : Head} → Plays p s im₀ im head → Advanced p s im after head next → length after ≡ length im
     → Plays p s im₀ after next
 plays-next h a k = record { same = a .plays ∙ h .same; stops = a .stops ∙ h .stops; stands = a .stands; kept = k ∙ h .kept }
-
--- what a match finds behind its first variant is no record
-pub over-by : (found : Found) → (tagOf the-type found ≡ 1) ⊎ (tagOf the-type found ≡ 2) → Over found
-over-by (Is direction part) (inl k) n = omega arith
-over-by (Is direction part) (inr k) n = omega arith
-over-by End k n = let z : _≡_ {A = ℕ} 0 1 = cc in omega arith
-over-by (Refused fault) k n = let z : _≡_ {A = ℕ} 0 1 = cc in omega arith
 
 -- where no record stands nothing is left to play
 pub plays-over : {p : Profile} {s im₀ im : List ℕ} {head : Head} {found : Found} {ended : Ended} → Plays p s im₀ im head → found ≡ foundAt s (head .at)

@@ -10,6 +10,7 @@ use native.Mathlib.Omega.{arith}
 use lib.ListN.{length}
 use lib.Dec.{leb, eqb}
 use borrow.Author.Tests.{leb-true, eqb-true, not-false}
+use denote.Enum.Declared.{tagOf}
 use Rattle.numbers.specs.Bytes.{field}
 use Rattle.numbers.specs.Same.{same}
 use Rattle.verdict.specs.Check.{firstFault, NoneApplies}
@@ -26,6 +27,7 @@ use Rattle.recording.specs.declared.Ended.the-variants.{Not, Whole, By}
 use Rattle.recording.specs.declared.Extent.{Extent}
 use Rattle.recording.specs.Format.{mark, directionNumber, directedOf, lengthAllowed, isKnown, Record}
 use Rattle.recording.specs.Recording.{directionAt, countAt, partAt, lengthChecks, readChecks, foundBy, foundAt, bytesIn, recordBy, continued, recordsWithin, recordsFrom, stopped, stopWithin, stopFrom, endedBy, extentAt, extentOf, LiesBehind, Inside}
+use Rattle.recording.proofs.Found.{the-type}
 use Rattle.recording.proofs.Laws.{found-end}
 
 -- a record at a place to which no check applies
@@ -186,6 +188,13 @@ apart e = let z : _≡_ {A = ℕ} 0 1 = cc in omega arith
 
 fault-apart : (fault : Fault) → By fault ≡ Not → ⊥
 fault-apart fault e = let z : _≡_ {A = ℕ} 0 1 = cc in omega arith
+
+-- what a match finds behind its first variant is no record
+pub over-by : (found : Found) → (tagOf the-type found ≡ 1) ⊎ (tagOf the-type found ≡ 2) → Over found
+over-by (Is direction part) (inl k) n = omega arith
+over-by (Is direction part) (inr k) n = omega arith
+over-by End k n = apart n
+over-by (Refused fault) k n = fault-apart fault n
 
 over-past : (at n : ℕ) (found : Found) → Lies at n found → n ≤ at → Over found
 over-past at n (Is direction part) l h = absurd (omega arith)

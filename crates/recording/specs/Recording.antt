@@ -135,6 +135,10 @@ extentAt recording at = record { count = at; ended = endedBy (foundAt recording 
 abbrev pub extentOf : List ℕ → Extent
 extentOf recording = extentAt recording (readable recording)
 
+-- of a recording that was not read
+abbrev pub unread : Extent
+unread = record { count = 0; ended = Not }
+
 -- as a number; 0 is that of a recording that was not read
 abbrev pub endedNumber : Ended → ℕ
 endedNumber Not = 0

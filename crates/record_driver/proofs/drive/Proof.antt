@@ -5,15 +5,16 @@ use Rattle.record_driver.proofs.drive.Statement.{statement}
 use Rattle.record_driver.proofs.drive.Tie as tie
 
 returns : tie.Need-returns
-returns c = unstarted _ _ (c .before .before .before .start .ensures .is) (c .before .is-accepted .ensures) _ (c .if1 .taken)
+returns c =
+    unstarted _ _ (c .before .before .before .before .start .ensures .is) (c .before .before .is-accepted .ensures) _ (c .before .if1 .taken) (c .refused .ensures)
 
 returns-2 : tie.Need-returns-2
 returns-2 c =
     unfed _ _
-    (c .before .before .before .before .before .before .before .before .before .before .before .before .before .before .before .before .start .ensures .is)
-    (c .before .before .before .before .before .before .before .before .before .before .before .before .before .before .is-accepted .ensures)
-    (c .before .before .before .before .before .before .before .before .before .before .before .before .before .if1 .left) _ _
-    (c .before .before .before .before .before .before .before .before .feed .ensures) (c .before .is-accepted2 .ensures) _ (c .if2 .taken)
+    (c .before .before .before .before .before .before .before .before .before .before .before .before .before .before .before .before .before .start .ensures .is)
+    (c .before .before .before .before .before .before .before .before .before .before .before .before .before .before .before .is-accepted .ensures)
+    (c .before .before .before .before .before .before .before .before .before .before .before .before .before .before .if1 .left) _ _
+    (c .before .before .before .before .before .before .before .before .before .feed .ensures) (c .before .before .is-accepted2 .ensures) _ (c .before .if2 .taken) (c .refused2 .ensures)
 
 run-requires : tie.Need-run-requires
 run-requires c κs =
@@ -38,7 +39,7 @@ returns-3 c =
 
 pub drive-spec : {M : Type 1} → statement M
 drive-spec =
-    tie.close (tie.spec (λ c κs. search needs) (λ c κs. search needs) (λ c. search needs) returns
-    (λ c. search needs) (λ c. search needs) (λ c. search needs) (λ c κs. search needs) (λ c κs. search needs)
+    tie.close (tie.spec (λ c κs. search needs) (λ c κs. search needs) (λ c κs. search needs) (λ c. search needs) returns
+    (λ c. search needs) (λ c. search needs) (λ c. search needs) (λ c κs. search needs) (λ c κs. search needs) (λ c κs. search needs)
     (λ c. search needs) (λ c. search needs) (λ c. search needs) returns-2 run-requires (λ c. search needs)
     (λ c. search needs) (λ c. search needs) returns-3)

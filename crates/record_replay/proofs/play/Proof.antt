@@ -1,5 +1,6 @@
 -- `record_replay::play` meets its contract. The loop's invariant: what is left to play and where reading stops are those of the start; the measure is what is left to read. Assumes nothing.
-use Rattle.record_replay.proofs.Playing.{Plays, plays-start, plays-next, over-by, plays-over}
+use Rattle.recording.proofs.Reading.{over-by}
+use Rattle.record_replay.proofs.Playing.{Plays, plays-start, plays-next, plays-over}
 use borrow.Author.Needs.{needs}
 use lib.ListN.{length}
 use native.Mathlib.Omega.{arith}
