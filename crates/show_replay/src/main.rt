@@ -1,10 +1,11 @@
 // Sessions with every effect on the flash, on the bench profile. Each is run twice: once by the driver, and once call by call, to take
 // down what the host and the device sent. The recording is then replayed on a blank image, and the two images are compared.
-ghost use mathlib.Core.Path.{_≡_};
 ghost use Prim.Native.Nat.{_+_, _≤_, _<_};
 ghost use lib.ListN.{length};
-ghost use Rattle.recording.specs.Recording.{stopped, Inside};
+use recording::Direction;
+use recording::Extent;
 use recording::Found;
+use recording::Part;
 use show_common::bench_profile;
 use state::State;
 
@@ -45,15 +46,15 @@ struct Turn {
     length: usize,
 }
 
-// What the device sent, if it sent anything.
-fn note_reply(line: &mut [u8], at: usize, reply: &[u8], count: usize) -> usize {
+// A record of the first bytes that a side sent, if it sent any.
+fn note_first(line: &mut [u8], at: usize, direction: u8, bytes: &[u8], count: usize) -> usize {
     if count == 0 {
         return at;
     }
-    if reply.len() < count {
+    if bytes.len() < count {
         return at;
     }
-    note(line, at, 0x44, &reply[..count])
+    note(line, at, direction, &bytes[..count])
 }
 
 // A delivery, with its reply if there is one.
@@ -63,7 +64,7 @@ fn send(image: &mut [u8], turn: Turn, receive: &mut [u8], line: &mut [u8], input
     let fed = device::feed(bench_profile(), image, state, receive, &mut reply, input);
     let next = fed.state;
     let sent = note(line, turn.length, 0x48, input);
-    let length = note_reply(line, sent, &reply, fed.count);
+    let length = note_first(line, sent, 0x44, &reply, fed.count);
     Turn {
         state: next,
         length,
@@ -88,31 +89,19 @@ fn step(
     receive: &mut [u8],
     line: &mut [u8],
     script: &[u8],
-    found: Found,
+    direction: Direction,
+    part: Part,
 ) -> Turn
-    requires { ⌜ Inside (length (now script)) found ⌝ }
+    requires { ⌜ (part .from ≤ part .to) × (part .to ≤ length (now script)) ⌝ }
 {
-    match found {
-        Found::Host(part) => {
+    match direction {
+        Direction::Host => {
             let from = part.from;
             let to = part.to;
             send(image, turn, receive, line, &script[from..to])
         }
-        Found::Reset(_) => restart(image, turn, line),
-        _ => turn,
-    }
-}
-
-// Where the next record begins; without one, the script's end.
-fn behind(found: Found, end: usize) -> usize
-    ensures { λ r. ⌜ r ≡ stopped (λ to. to) end found ⌝ }
-{
-    match found {
-        Found::Host(part) => part.to,
-        Found::Device(part) => part.to,
-        Found::Reset(part) => part.to,
-        Found::End => end,
-        Found::Unreadable => end,
+        Direction::Device => turn,
+        Direction::Reset => restart(image, turn, line),
     }
 }
 
@@ -122,12 +111,23 @@ fn take_down(image: &mut [u8], receive: &mut [u8], line: &mut [u8], script: &[u8
     let state = begun.state;
     let mut turn = Turn { state, length: 0 };
     let mut at = 0;
-    while at < script.len() {
+    loop {
         let found = recording::record_at(script, at);
-        turn = step(image, turn, receive, line, script, found);
-        at = behind(found, script.len());
+        let Found::Is(direction, part) = found else {
+            return turn.length;
+        };
+        turn = step(image, turn, receive, line, script, direction, part);
+        at = part.to;
     }
-    turn.length
+}
+
+// Whether all of n bytes was read.
+fn all_read(read: Extent, n: usize) -> bool {
+    let ended = read.ended;
+    if recording::ended_number(ended) != 6 {
+        return false;
+    }
+    read.count == n
 }
 
 // How many bytes of an image are not FFh.
@@ -165,7 +165,7 @@ fn replays(script: &[u8], image: &[u8]) -> bool {
         return false;
     }
     let read = record_replay::play(&mut replayed, bench_profile(), &line[..length]);
-    if read != length {
+    if !all_read(read, length) {
         return false;
     }
     numbers::equal(image, &replayed)
@@ -180,7 +180,8 @@ fn drives(image: &mut [u8], script: &[u8]) -> bool {
     if device::number(refusal) != 0 {
         return false;
     }
-    driven.read == script.len()
+    let read = driven.read;
+    all_read(read, script.len())
 }
 
 // Whether the image driven is the image replayed, and how much of it is not FFh.
@@ -233,10 +234,7 @@ fn counted(n: usize, again: bool) -> usize
 // The first bytes of a packet between two parts of a script.
 fn cut_script(script: &mut [u8], before: &[u8], packet: &[u8], n: usize, after: &[u8]) -> usize {
     let first = append(script, 0, before);
-    if packet.len() < n {
-        return first;
-    }
-    let cut = note(script, first, 0x48, &packet[..n]);
+    let cut = note_first(script, first, 0x48, packet, n);
     append(script, cut, after)
 }
 

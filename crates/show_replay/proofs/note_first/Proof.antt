@@ -1,15 +1,15 @@
--- `show_replay::note_reply` is safe. The reply's length is tested against the buffer. Assumes nothing.
+-- `show_replay::note_first` is safe. No more bytes are taken than there are. Assumes nothing.
 use mathlib.Core.Path.{sym}
 use native.Mathlib.Omega.{arith}
 use lib.Seq.{length-take-le}
 use borrow.Author.Needs.{needs}
-use Rattle.show_replay.proofs.note_reply.Statement.{statement}
-use Rattle.show_replay.proofs.note_reply.Tie as tie
+use Rattle.show_replay.proofs.note_first.Statement.{statement}
+use Rattle.show_replay.proofs.note_first.Tie as tie
 
 slice-aggregate-note : tie.Need-slice-aggregate-note
 slice-aggregate-note c = sym (length-take-le _ _ (omega arith))
 
-pub note-reply-spec : {M : Type 1} → statement M
-note-reply-spec =
+pub note-first-spec : {M : Type 1} → statement M
+note-first-spec =
     tie.close (tie.spec (λ c. search needs) (λ c. search needs) slice-aggregate-note (λ c κs. search needs)
     (λ c. search needs) (λ c. search needs))
