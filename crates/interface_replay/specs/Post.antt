@@ -5,10 +5,9 @@ use mathlib.Core.Path.{_≡_}
 use Prim.Native.Nat.{ℕ}
 use lib.ListN.{length}
 use Rattle.profile.specs.Areas.{areasOf}
-use Rattle.recording.specs.declared.Ended.the-variants.{Not}
 use Rattle.recording.specs.declared.Extent.{Extent}
 use Rattle.recording.specs.Format.{Record, written, AllFormed}
-use Rattle.recording.specs.Recording.{recordsOf, extentOf, endedNumber}
+use Rattle.recording.specs.Recording.{recordsOf, extentOf, endedNumber, unread}
 use Rattle.record_exchange.specs.Line.{Entry, exchangesOf, taped, Stray}
 use Rattle.record_replay.specs.Replay.{replay}
 use Rattle.device_calls.specs.declared.Refusal.{Refusal}
@@ -22,7 +21,7 @@ imageBy row profile recording before =
     cond (isAccepted row) (replay (areasOf (profileIn profile)) before (exchangesOf (recordsOf recording))) before
 
 abbrev pub extentBy : Refusal → List ℕ → Extent
-extentBy row recording = cond (isAccepted row) (extentOf recording) (record { count = 0; ended = Not })
+extentBy row recording = cond (isAccepted row) (extentOf recording) unread
 
 pub record Replayed (profile recording before after : List ℕ) (r read ended : ℕ) : Type 0 where
   pub number : r ≡ numberOf (startRefusal (profileIn profile) (length before))
