@@ -23,7 +23,7 @@ on-disk =
             behind = writer.written-exactly;
             kept = λ direction at bytes before after r w n e.
                 (writer.before-kept direction at bytes before after r w n e, writer.behind-kept direction at bytes before after r w n e);
-            refused = writer.refused-exactly;
+            refused = writer.unwritten-exactly;
             unwritten = writer.refused-leaves;
             once = λ direction at bytes before after after′ r r′. writer.wrote-once;
           };

@@ -25,7 +25,7 @@ use Rattle.device_steps.specs.Feed.{Delivery}
 use Rattle.interface.specs.Calls.{LentBytes, startingRows, stateRows, feedingRows, startingRefusal, feedingRefusal}
 use Rattle.interface.specs.Post.{Numbers, StartedBytes, ResetBytes, resetOver, deliveryOf, RanBytes, UnfedBytes, FedBytes, FeedsBytes}
 use Rattle.interface_replay.specs.Post.{imageBy, extentBy, Replayed}
-use Rattle.interface_record.proofs.Tells.{record-told, end-told, fault-told, place-stays, read-answered, written-told, unwritten-told, written-place, write-answered}
+use Rattle.interface_record.proofs.Tells.{record-told, end-told, fault-told, place-stays, reading-answered, written-told, unwritten-told, written-place, writing-answered}
 use Rattle.demands.specs.Outside.{NumberedBy, Outside}
 use Rattle.demands.proofs.Rows.{by-rows, refusal-once}
 
@@ -117,20 +117,18 @@ module _ (profile recording before after : List ℕ) (r read ended : ℕ) (s : R
 
   replay-accepted : r ≡ 0 → (after ≡ replay (areasOf (profileIn profile)) before (exchangesOf (recordsOf recording)))
       × (read ≡ extentOf recording .count) × (ended ≡ endedNumber (extentOf recording .ended))
-  replay-accepted z =
-      (
-        s .image ∙ where-accepted image begun (s .number) z,
-        s .count ∙ where-accepted count begun (s .number) z,
-        s .why ∙ where-accepted why begun (s .number) z,
-      )
+  replay-accepted z = (
+    s .image ∙ where-accepted image begun (s .number) z,
+    s .count ∙ where-accepted count begun (s .number) z,
+    s .why ∙ where-accepted why begun (s .number) z,
+  )
 
   replay-refused : (r ≡ 0 → ⊥) → (after ≡ before) × (read ≡ 0) × (ended ≡ 0)
-  replay-refused z =
-      (
-        s .image ∙ where-refused image begun (s .number) before (λ row. refl) z,
-        s .count ∙ where-refused count begun (s .number) 0 (λ row. refl) z,
-        s .why ∙ where-refused why begun (s .number) 0 (λ row. refl) z,
-      )
+  replay-refused z = (
+    s .image ∙ where-refused image begun (s .number) before (λ row. refl) z,
+    s .count ∙ where-refused count begun (s .number) 0 (λ row. refl) z,
+    s .why ∙ where-refused why begun (s .number) 0 (λ row. refl) z,
+  )
 
   -- reading never ends with nothing told
   replay-ended : (ended ≡ 0) ↔ (r ≡ 0 → ⊥)
@@ -160,6 +158,6 @@ outside =
       write-record = written-told;
       write-fault = unwritten-told;
       write-stays = written-place;
-      read-answers = read-answered;
-      write-answers = write-answered;
+      read-answers = reading-answered;
+      write-answers = writing-answered;
     }

@@ -16,7 +16,7 @@ use Rattle.recording.specs.Format.{headLength, directionNumber, rules, entry, R
 use Rattle.recording.specs.Recording.{readChecks, foundAt, HasAt, bytesIn, recordsOf, readable, extentOf}
 use Rattle.record_writer.specs.declared.Written.{Written}
 use Rattle.record_writer.specs.declared.Written.the-variants.{Behind, Refused as NotWritten}
-use Rattle.record_writer.specs.Writing.{writeChecks, Wrote, ReadsAt, WroteAll}
+use Rattle.record_writer.specs.Writing.{writerChecks, Wrote, ReadsAt, WroteAll}
 
 -- reading one record, at any place of any bytes
 pub record Reads : Type 0 where
@@ -38,13 +38,13 @@ pub record Reads : Type 0 where
 pub record Writes : Type 0 where
   -- written exactly where no check applies, and the answer is the place behind it
   pub behind : (direction at : ℕ) (bytes before after : List ℕ) (r : Written) → Wrote direction at bytes before after r
-      → (n : ℕ) → (r ≡ Behind n) ↔ (NoneApplies (writeChecks direction (length bytes) at (length before)) × (n ≡ at + headLength + length bytes))
+      → (n : ℕ) → (r ≡ Behind n) ↔ (NoneApplies (writerChecks direction (length bytes) at (length before)) × (n ≡ at + headLength + length bytes))
   -- every byte outside it is as it was
   pub kept : (direction at : ℕ) (bytes before after : List ℕ) (r : Written) → Wrote direction at bytes before after r
       → (n : ℕ) → r ≡ Behind n → (take at after ≡ take at before) × (drop n after ≡ drop n before)
   -- refused by the first check that applies, and then nothing is written
   pub refused : (direction at : ℕ) (bytes before after : List ℕ) (r : Written) → Wrote direction at bytes before after r
-      → (fault : Fault) → (r ≡ NotWritten fault) ↔ IsFirst (writeChecks direction (length bytes) at (length before)) fault
+      → (fault : Fault) → (r ≡ NotWritten fault) ↔ IsFirst (writerChecks direction (length bytes) at (length before)) fault
   pub unwritten : (direction at : ℕ) (bytes before after : List ℕ) (r : Written) → Wrote direction at bytes before after r
       → (fault : Fault) → r ≡ NotWritten fault → after ≡ before
   -- no second answer, and no second buffer

@@ -13,7 +13,7 @@ use Rattle.recording.specs.declared.Fault.the-variants.{BadDirection}
 use Rattle.recording.specs.Format.{directionNumber, directedOf, faultNumber}
 use Rattle.recording.proofs.Laws.{directed-number}
 use Rattle.record_writer.specs.declared.Written.{Written}
-use Rattle.record_writer.specs.Writing.{writeChecks, Wrote}
+use Rattle.record_writer.specs.Writing.{writerChecks, Wrote}
 use Rattle.record_writer.proofs.Laws.{direction-refused}
 use Rattle.interface_record.specs.Post.{writtenNumber, placeBy, ReadsBytes, WritesBytes}
 

@@ -62,8 +62,8 @@ module _ (recording : List ℕ) (at r from to : ℕ) (told : ReadsBytes recordin
       by End e = (told .first ∙ ap (λ (x : Found). partBy at x .from) e, told .behind ∙ ap (λ (x : Found). partBy at x .to) e)
       by (Refused f) e = (told .first ∙ ap (λ (x : Found). partBy at x .from) e, told .behind ∙ ap (λ (x : Found). partBy at x .to) e)
 
-  pub read-answered : 0 < r
-  read-answered = subst (λ (n : ℕ). 0 < n) (sym (told .number)) (found-positive (foundAt recording at))
+  pub reading-answered : 0 < r
+  reading-answered = subst (λ (n : ℕ). 0 < n) (sym (told .number)) (found-positive (foundAt recording at))
 
 -- what was written, by its number
 module _ (direction at : ℕ) (bytes before after : List ℕ) (r to : ℕ) (told : WritesBytes direction at bytes before after r to) where
@@ -98,8 +98,8 @@ module _ (direction at : ℕ) (bytes before after : List ℕ) (r to : ℕ) (told
   pub written-place : (f : Fault) → r ≡ faultNumber f → to ≡ at
   written-place f e = told .behind ∙ ap (placeBy at) (sym (unwritten-told f .0 e .answers))
 
-  pub write-answered : 0 < r
-  write-answered = by (writtenOf direction at bytes before) refl
+  pub writing-answered : 0 < r
+  writing-answered = by (writtenOf direction at bytes before) refl
     where
       by : (w : Written) → writtenOf direction at bytes before ≡ w → 0 < r
       by (Behind n) e = let m : r ≡ direction = told .number ∙ ap (writtenNumber direction) e in omega (arith, above n e)

@@ -31,10 +31,10 @@ pub number-back : (w n : ℕ) → n < 256 ^ w → number (bytesOf w n) ≡ n
 number-back w n h = number-bytes w n ∙ mod-eq-of-lt h
 
 -- bytes in a list, by their places; behind a place; before one
-pub all-bytes : (l : List ℕ) → ((i : ℕ) → getD l i 0 < 256) → AllBytes l
+pub are-bytes : (l : List ℕ) → ((i : ℕ) → getD l i 0 < 256) → AllBytes l
 unfolding AllBytes
-all-bytes [] h = tt
-all-bytes (b ∷ bs) h = (h zero, all-bytes bs (λ i. h (suc i)))
+are-bytes [] h = tt
+are-bytes (b ∷ bs) h = (h zero, are-bytes bs (λ i. h (suc i)))
 
 pub all-drop : (n : ℕ) (l : List ℕ) → AllBytes l → AllBytes (drop n l)
 unfolding AllBytes

@@ -10,7 +10,7 @@ use lib.Dec.{leb}
 use borrow.Author.Tests.{leb-true}
 use Rattle.numbers.specs.declared.Number.the-variants.{Is as Number, CutShort as NumberCut}
 use Rattle.numbers.specs.Bytes.{number, field, numberAt, AllBytes}
-use Rattle.numbers.proofs.RoundTrip.{number-below, all-bytes, all-drop, all-take}
+use Rattle.numbers.proofs.RoundTrip.{number-below, are-bytes, all-drop, all-take}
 use Rattle.profile.specs.declared.Profile.{Profile}
 use Rattle.profile.specs.Areas.{areasOf}
 use Rattle.packet_fields.specs.Fields.{valueOf, fourAt}
@@ -145,7 +145,7 @@ module _ (p : Profile) (s im : List ℕ) (head : Head) (stands : HeadIn (length 
       let o : request .from ≤ request .to = h .0 in
       let b : request .to ≤ head .at = h .1 in
       let n : length q ≤ request .to - request .from = part-length request s in
-      let all : AllBytes q = all-take (request .to - request .from) (drop (request .from) s) (all-drop (request .from) s (all-bytes s bytes)) in
+      let all : AllBytes q = all-take (request .to - request .from) (drop (request .from) s) (all-drop (request .from) s (are-bytes s bytes)) in
       let low = exchange-low q (bytesIn part s) (4294967295 + request .from) (4294967295 + part .to) (head .landing) all (omega arith) (omega arith) (h .2) in
       advanced Device e after next Nothing (rw (records-next s (head .at) Device part e, w, t)) (rw (ap (λ (u : Tape). u .landing) t) low)
 

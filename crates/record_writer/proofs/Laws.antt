@@ -19,16 +19,16 @@ use Rattle.recording.proofs.Laws.{directed-back}
 use Rattle.recording.proofs.Written.{entry-length}
 use Rattle.record_writer.specs.declared.Written.{Written}
 use Rattle.record_writer.specs.declared.Written.the-variants.{Behind, Refused}
-use Rattle.record_writer.specs.Writing.{writeChecks, Wrote}
+use Rattle.record_writer.specs.Writing.{writerChecks, Wrote}
 
 module _ (direction at : ℕ) (bytes before : List ℕ) where
   pub direction-refused : directedOf direction ≡ Unknown → Wrote direction at bytes before before (Refused BadDirection)
-  unfolding writeChecks firstFault
+  unfolding writerChecks firstFault
   direction-refused e = record { answers = rw e refl; leaves = rw e refl }
 
 module _ (d : Direction) (at : ℕ) (bytes before : List ℕ) where
   pub length-refused : lengthAllowed (directionNumber d) (length bytes) ≡ false → Wrote (directionNumber d) at bytes before before (Refused BadLength)
-  unfolding writeChecks firstFault
+  unfolding writerChecks firstFault
   length-refused e = record { answers = rw (directed-back d, e) refl; leaves = rw (directed-back d, e) refl }
 
   module _ (allowed : lengthAllowed (directionNumber d) (length bytes) ≡ true) where
@@ -36,13 +36,13 @@ module _ (d : Direction) (at : ℕ) (bytes before : List ℕ) where
     same-room = let e : at + 5 + length bytes ≡ at + (length bytes + 5) = omega arith in ap (λ (n : ℕ). leb n (length before)) e
 
     pub room-refused : leb (at + (length bytes + 5)) (length before) ≡ false → Wrote (directionNumber d) at bytes before before (Refused NoRoom)
-    unfolding writeChecks firstFault
+    unfolding writerChecks firstFault
     room-refused e = record { answers = rw (directed-back d, allowed, same-room, e) refl; leaves = rw (directed-back d, allowed, same-room, e) refl }
 
     pub record-written : leb (at + (length bytes + 5)) (length before) ≡ true → (after part : List ℕ) → part ≡ entry (directionNumber d) bytes
         → after ≡ take at before ++ (part ++ drop (at + (length bytes + 5) - at) (drop at before))
         → Wrote (directionNumber d) at bytes before after (Behind (at + (length bytes + 5)))
-    unfolding writeChecks firstFault
+    unfolding writerChecks firstFault
     record-written e after part p a =
         let behind : at + (length bytes + 5) ≡ at + 5 + length bytes = omega arith in
         let count : at + (length bytes + 5) - at ≡ length bytes + 5 = omega arith in

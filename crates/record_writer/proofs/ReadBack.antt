@@ -18,6 +18,7 @@ use Rattle.recording.specs.declared.Direction.{Direction}
 use Rattle.recording.specs.declared.Directed.{Directed}
 use Rattle.recording.specs.declared.Directed.the-variants.{Known, Unknown}
 use Rattle.recording.specs.declared.Fault.{Fault}
+use Rattle.recording.specs.declared.Fault.the-variants.{BadMark, BadDirection, BadLength, CutShort, NoRoom}
 use Rattle.recording.specs.declared.Part.{Part}
 use Rattle.recording.specs.declared.Ended.the-variants.{Whole}
 use Rattle.recording.specs.declared.Found.the-variants.{Is}
@@ -25,11 +26,11 @@ use Rattle.recording.specs.Format.{headLength, directionNumber, directedOf, isK
 use Rattle.recording.specs.Recording.{directionAt, countAt, partAt, foundAt, HasAt, bytesIn, recordsOf, readable, extentOf}
 use Rattle.recording.proofs.Laws.{directed-number, directed-back}
 use Rattle.recording.proofs.Written.{entry-length, entry-found, entry-bytes, reads-back, reads-whole}
-use Rattle.recording.proofs.Exactly.{record-tells}
+use Rattle.recording.proofs.Exactly.{record-tells, AllGive, gives-only}
 use Rattle.recording.proofs.Back.{read-allowed, read-entry, entry-read, entry-read-bytes, whole-back}
 use Rattle.record_writer.specs.declared.Written.{Written}
 use Rattle.record_writer.specs.declared.Written.the-variants.{Behind, Refused}
-use Rattle.record_writer.specs.Writing.{writeChecks, writtenBy, leftBy, Wrote, ReadsAt, WroteAll, none-written, one-written}
+use Rattle.record_writer.specs.Writing.{writerChecks, writtenBy, leftBy, Wrote, ReadsAt, WroteAll, none-written, one-written}
 
 -- no second outcome meets the promise
 pub wrote-once : {direction at : ℕ} {bytes before after after′ : List ℕ} {r r′ : Written} → Wrote direction at bytes before after r
@@ -42,18 +43,18 @@ known-is Unknown e Y f = let z : _≡_ {A = ℕ} 0 1 = cc in absurd (omega arith
 
 module _ (direction at : ℕ) (bytes before after : List ℕ) (r : Written) (w : Wrote direction at bytes before after r) where
   abbrev checks : List (Check Fault)
-  checks = writeChecks direction (length bytes) at (length before)
+  checks = writerChecks direction (length bytes) at (length before)
 
   -- refused exactly by the first fault, and then the buffer is as it was
-  pub refused-exactly : (f : Fault) → (r ≡ Refused f) ↔ IsFirst checks f
-  refused-exactly f = (λ e. first checks f (by (firstFault checks) (sym (w .answers) ∙ e)), λ i. w .answers ∙ ap (λ (x : Option Fault). writtenBy x (at + headLength + length bytes)) (first-found checks f i))
+  pub unwritten-exactly : (f : Fault) → (r ≡ Refused f) ↔ IsFirst checks f
+  unwritten-exactly f = (λ e. first checks f (by (firstFault checks) (sym (w .answers) ∙ e)), λ i. w .answers ∙ ap (λ (x : Option Fault). writtenBy x (at + headLength + length bytes)) (first-found checks f i))
     where
       by : (x : Option Fault) → writtenBy x (at + headLength + length bytes) ≡ Refused f → x ≡ some f
       by none e = let z : _≡_ {A = ℕ} 0 1 = cc in absurd (omega arith)
       by (some g) e = let k : g ≡ f = cc in ap some k
 
   pub refused-leaves : (f : Fault) → r ≡ Refused f → after ≡ before
-  refused-leaves f e = w .leaves ∙ ap (λ (x : Option Fault). leftBy x direction at bytes before) (first-found checks f (refused-exactly f .0 e))
+  refused-leaves f e = w .leaves ∙ ap (λ (x : Option Fault). leftBy x direction at bytes before) (first-found checks f (unwritten-exactly f .0 e))
 
   -- written exactly where no fault applies
   pub written-exactly : (n : ℕ) → (r ≡ Behind n) ↔ (NoneApplies checks × (n ≡ at + headLength + length bytes))
@@ -71,15 +72,15 @@ module _ (direction at : ℕ) (bytes before after : List ℕ) (r : Written) (w :
     place-behind = written-exactly n .0 e .1
 
     pub has-room : at + headLength + length bytes ≤ length before
-    unfolding writeChecks NoneApplies
+    unfolding writerChecks NoneApplies
     has-room = leb-true _ _ (not-false _ (written-exactly n .0 e .0 .1 .1 .0))
 
     pub direction-known : isKnown (directedOf direction) ≡ true
-    unfolding writeChecks NoneApplies
+    unfolding writerChecks NoneApplies
     direction-known = not-false _ (written-exactly n .0 e .0 .0)
 
     pub length-allowed : lengthAllowed direction (length bytes) ≡ true
-    unfolding writeChecks NoneApplies
+    unfolding writerChecks NoneApplies
     length-allowed = not-false _ (written-exactly n .0 e .0 .1 .0)
 
     pub left : after ≡ take at before ++ (entry direction bytes ++ drop n before)
@@ -123,6 +124,27 @@ module _ (direction at : ℕ) (bytes before after : List ℕ) (r : Written) (w :
               found = rw place-behind (rw (around, front) at (entry-found (take at before) d bytes (drop n before) allowed));
               contents = rw place-behind (rw (around, front) at (entry-bytes (take at before) d bytes (drop n before) allowed));
             }
+
+-- a writer never finds a bad mark or a record that is cut short: these are faults of reading alone
+abbrev Writers : Fault → Type 0
+Writers BadMark = ⊥
+Writers BadDirection = Unit {0}
+Writers BadLength = Unit {0}
+Writers CutShort = ⊥
+Writers NoRoom = Unit {0}
+
+module _ (direction at : ℕ) (bytes before after : List ℕ) (r : Written) (w : Wrote direction at bytes before after r) where
+  refuses : (f : Fault) → r ≡ Refused f → Writers f
+  unfolding AllGive writerChecks
+  refuses f e =
+      gives-only Writers (checks direction at bytes before after r w) f
+      (first-found (checks direction at bytes before after r w) f (unwritten-exactly direction at bytes before after r w f .0 e)) (tt, (tt, (tt, tt)))
+
+  pub never-bad-mark : r ≡ Refused BadMark → ⊥
+  never-bad-mark e = refuses BadMark e
+
+  pub never-cut-short : r ≡ Refused CutShort → ⊥
+  never-cut-short e = refuses CutShort e
 
 -- records written one behind the other: the buffer's front is those before and the recording that they make
 pub all-left : (rs : List Record) (at : ℕ) (before : List ℕ) (to : ℕ) (after : List ℕ) → WroteAll rs at before to after

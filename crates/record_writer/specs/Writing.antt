@@ -17,12 +17,12 @@ use Rattle.record_writer.specs.declared.Written.{Written}
 use Rattle.record_writer.specs.declared.Written.the-variants.{Behind, Refused}
 
 -- what is wrong with a record of so many bytes, to be written at a place of a buffer of so many: a record's two rules, then the room
-unfoldable pub writeChecks : ℕ → ℕ → ℕ → ℕ → List (Check Fault)
-writeChecks direction count at size = rules direction count ++ (not (leb (at + headLength + count) size) gives NoRoom) ∷ []
+unfoldable pub writerChecks : ℕ → ℕ → ℕ → ℕ → List (Check Fault)
+writerChecks direction count at size = rules direction count ++ (not (leb (at + headLength + count) size) gives NoRoom) ∷ []
 
 -- the first of it, for these bytes and this buffer
-abbrev pub writeFault : ℕ → ℕ → List ℕ → List ℕ → Option Fault
-writeFault direction at bytes buffer = firstFault (writeChecks direction (length bytes) at (length buffer))
+abbrev pub writerFault : ℕ → ℕ → List ℕ → List ℕ → Option Fault
+writerFault direction at bytes buffer = firstFault (writerChecks direction (length bytes) at (length buffer))
 
 -- the place behind the record, or why there is none
 abbrev pub writtenBy : Option Fault → ℕ → Written
@@ -36,10 +36,10 @@ leftBy (some fault) direction at bytes buffer = buffer
 
 -- what writing answers and leaves
 abbrev pub writtenOf : ℕ → ℕ → List ℕ → List ℕ → Written
-writtenOf direction at bytes buffer = writtenBy (writeFault direction at bytes buffer) (at + headLength + length bytes)
+writtenOf direction at bytes buffer = writtenBy (writerFault direction at bytes buffer) (at + headLength + length bytes)
 
 abbrev pub leftOf : ℕ → ℕ → List ℕ → List ℕ → List ℕ
-leftOf direction at bytes buffer = leftBy (writeFault direction at bytes buffer) direction at bytes buffer
+leftOf direction at bytes buffer = leftBy (writerFault direction at bytes buffer) direction at bytes buffer
 
 pub record Wrote (direction at : ℕ) (bytes before after : List ℕ) (r : Written) : Type 0 where
   pub answers : r ≡ writtenOf direction at bytes before

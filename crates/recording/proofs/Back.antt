@@ -21,7 +21,7 @@ use Rattle.recording.specs.declared.Found.the-variants.{Is, End, Refused
 use Rattle.recording.specs.declared.Ended.the-variants.{Whole}
 use Rattle.recording.specs.Format.{mark, headLength, directionNumber, lengthAllowed, entry, Record, entryOf, written, Formed, AllFormed}
 use Rattle.recording.specs.Recording.{directionAt, countAt, partAt, foundAt, HasAt, bytesIn, recordBy, continued, recordsWithin, recordsFrom, recordsOf, stopped, stopWithin, stopFrom, readable, extentOf, LiesBehind}
-use Rattle.recording.proofs.Reading.{Sound, Lies, lies, found-lies, whole-exactly}
+use Rattle.recording.proofs.Reading.{Checked, Lies, lies, found-lies, whole-exactly}
 use Rattle.recording.proofs.Written.{entry-length, entry-found, entry-bytes}
 use Rattle.recording.proofs.Exactly.{record-tells}
 
@@ -29,8 +29,8 @@ use Rattle.recording.proofs.Exactly.{record-tells}
 take-split : (a b at : ℕ) (s : List ℕ) → take (a + b) (drop at s) ≡ take a (drop at s) ++ take b (drop (at + a) s)
 take-split a b at s = take-add a b (drop at s) ∙ ap (λ (l : List ℕ). take a (drop at s) ++ take b l) (drop-drop a at s)
 
--- a sound record is the entry of its direction and its bytes
-module _ (s : List ℕ) (at : ℕ) (bytes : AllBytes s) (k : Sound s at) where
+-- a record to which no check applies is the entry of its direction and its bytes
+module _ (s : List ℕ) (at : ℕ) (bytes : AllBytes s) (k : Checked s at) where
   abbrev count : ℕ
   count = countAt s at
 
@@ -53,9 +53,9 @@ module _ (s : List ℕ) (at : ℕ) (bytes : AllBytes s) (k : Sound s at) where
       let f : at + 5 + count ≤ length s = k .fits in
       length-take-le count (drop (at + 5) s) (rw (length-drop (at + 5) s) (omega arith))
 
-  pub sound-entry : take (5 + count) (drop at s) ≡ entry (directionAt s at) contents
+  pub checked-entry : take (5 + count) (drop at s) ≡ entry (directionAt s at) contents
   unfolding entry
-  sound-entry =
+  checked-entry =
       let a : at + 2 + 1 ≡ at + 3 = omega arith in
       let b : at + 3 + 2 ≡ at + 5 = omega arith in
       let five : 5 + count ≡ 2 + (1 + (2 + count)) = omega arith in
@@ -65,7 +65,7 @@ module _ (s : List ℕ) (at : ℕ) (bytes : AllBytes s) (k : Sound s at) where
 
 -- a record that is read: its bytes stand there, as many as its direction may have
 module _ (s : List ℕ) (at : ℕ) (d : Direction) (part : Part) (e : foundAt s at ≡ Is d part) where
-  abbrev known : Sound s at
+  abbrev known : Checked s at
   known = record-tells s at d part e .0
 
   direction-is : directionAt s at ≡ directionNumber d
@@ -91,7 +91,7 @@ module _ (s : List ℕ) (at : ℕ) (d : Direction) (part : Part) (e : foundAt s 
   pub read-entry : AllBytes s → HasAt s at (entry (directionNumber d) (bytesIn part s))
   read-entry bytes =
       ap (λ (w : ℕ). take w (drop at s)) (entry-length (directionNumber d) (bytesIn part s) ∙ ap (λ (w : ℕ). 5 + w) count-is-length)
-      ∙ sound-entry s at bytes known
+      ∙ checked-entry s at bytes known
       ∙ rw (direction-is, ← bytes-are) refl
 
 -- and bytes that stand there are read
@@ -134,11 +134,11 @@ record-payload Host bytes a = refl
 record-payload Device bytes a = refl
 record-payload Reset bytes a = ap (entry (directionNumber Reset)) (sym (none-left bytes (eqb-true (length bytes) 0 a)))
 
-pub record-formed : (d : Direction) (bytes : List ℕ) → lengthAllowed (directionNumber d) (length bytes) ≡ true → Formed (recordBy d bytes)
+pub formed-by : (d : Direction) (bytes : List ℕ) → lengthAllowed (directionNumber d) (length bytes) ≡ true → Formed (recordBy d bytes)
 unfolding lengthAllowed
-record-formed Host bytes a = a
-record-formed Device bytes a = a
-record-formed Reset bytes a = refl
+formed-by Host bytes a = a
+formed-by Device bytes a = a
+formed-by Reset bytes a = refl
 
 -- every record that is read is as long as it may be
 formed-within : (s : List ℕ) (n at : ℕ) → AllFormed (recordsWithin n s at)
@@ -147,7 +147,7 @@ formed-within s zero at = tt
 formed-within s (suc n) at = by (foundAt s at) refl (formed-within s n)
   where
     by : (found : Found) → foundAt s at ≡ found → ((to : ℕ) → AllFormed (recordsWithin n s to)) → AllFormed (continued (recordsWithin n s) s found)
-    by (Is d part) e later = (record-formed d (bytesIn part s) (read-allowed s at d part e), later (part .to))
+    by (Is d part) e later = (formed-by d (bytesIn part s) (read-allowed s at d part e), later (part .to))
     by End e later = tt
     by (Refused fault) e later = tt
 

@@ -31,15 +31,15 @@ use Rattle.recording.proofs.Found.{the-type}
 use Rattle.recording.proofs.Laws.{found-end}
 
 -- a record at a place to which no check applies
-pub record Sound (s : List ℕ) (at : ℕ) : Type 0 where
+pub record Checked (s : List ℕ) (at : ℕ) : Type 0 where
   pub marked : same (field 2 at s) mark ≡ true
   pub known : isKnown (directedOf (directionAt s at)) ≡ true
   pub allowed : lengthAllowed (directionAt s at) (countAt s at) ≡ true
   pub fits : partAt s at .to ≤ length s
 
-pub sound : (s : List ℕ) (at : ℕ) → firstFault (readChecks s at) ≡ none → Sound s at
+pub checked : (s : List ℕ) (at : ℕ) → firstFault (readChecks s at) ≡ none → Checked s at
 unfolding NoneApplies readChecks lengthChecks
-sound s at e =
+checked s at e =
     let n = clear (readChecks s at) e in
     record {
       marked = not-false _ (n .1 .0);
@@ -66,7 +66,7 @@ lies s at = by (eqb at (length s)) refl
     by : (t : Bool) → eqb at (length s) ≡ t
         → Lies at (length s) (cond t End (foundBy (firstFault (readChecks s at)) (directedOf (directionAt s at)) (partAt s at)))
     by true e = eqb-true at (length s) e
-    by false e = found (firstFault (readChecks s at)) (directedOf (directionAt s at)) (λ h. sound s at h .fits)
+    by false e = found (firstFault (readChecks s at)) (directedOf (directionAt s at)) (λ h. checked s at h .fits)
 
 -- what was found at a place lies behind it, inside the recording
 module _ (s : List ℕ) (at : ℕ) {found : Found} (e : found ≡ foundAt s at) where

@@ -86,10 +86,10 @@ module _ (p : List ℕ) (d : Direction) (bytes q : List ℕ) (allowed : lengthAl
   entry-end = simp (length-append, entry-length) (omega arith)
 
 -- a record is what its direction and its bytes make
-pub record-is : (r : Record) → recordBy (directionOf r) (payload r) ≡ r
-record-is (host bytes) = refl
-record-is (device bytes) = refl
-record-is reset = refl
+pub record-again : (r : Record) → recordBy (directionOf r) (payload r) ≡ r
+record-again (host bytes) = refl
+record-again (device bytes) = refl
+record-again reset = refl
 
 past-all : (p : List ℕ) → length p ≡ length (p ++ [])
 past-all p = simp length-append (omega arith)
@@ -107,7 +107,7 @@ reads-from p (r ∷ rs) c =
     let s : List ℕ = p ++ (entryOf r ++ written rs) in
     let rest : recordsFrom (p ++ entryOf r ++ written rs) (length (p ++ entryOf r)) ≡ rs = reads-from (p ++ entryOf r) rs (c .1) in
     records-next s (length p) (directionOf r) _ (entry-found p (directionOf r) (payload r) (written rs) (c .0))
-    ∙ rw (entry-bytes p (directionOf r) (payload r) (written rs) (c .0)) (ap (λ (x : Record). x ∷ recordsFrom s (length p + headLength + length (payload r))) (record-is r))
+    ∙ rw (entry-bytes p (directionOf r) (payload r) (written rs) (c .0)) (ap (λ (x : Record). x ∷ recordsFrom s (length p + headLength + length (payload r))) (record-again r))
     ∙ ap (λ (l : List Record). r ∷ l) (rw (append-assoc p (entryOf r) (written rs), entry-end p (directionOf r) (payload r) (written rs) (c .0)) at rest)
 
 pub readable-from : (p : List ℕ) (rs : List Record) → AllFormed rs → stopFrom (p ++ written rs) (length p) ≡ length (p ++ written rs)
