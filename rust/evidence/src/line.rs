@@ -53,7 +53,12 @@ impl<'a> Pair<'a> {
         })
     }
 
-    fn same<T: PartialEq + Debug>(&self, what: &str, tested: T, right: T) -> Result<(), String> {
+    pub(crate) fn same<T: PartialEq + Debug>(
+        &self,
+        what: &str,
+        tested: T,
+        right: T,
+    ) -> Result<(), String> {
         if tested == right {
             return Ok(());
         }
@@ -67,7 +72,7 @@ impl<'a> Pair<'a> {
         ))
     }
 
-    fn same_bytes(&self, what: &str, tested: &[u8], right: &[u8]) -> Result<(), String> {
+    pub(crate) fn same_bytes(&self, what: &str, tested: &[u8], right: &[u8]) -> Result<(), String> {
         if tested == right {
             return Ok(());
         }
