@@ -7,8 +7,9 @@ use crate::line::{hex, Pair};
 use crate::noise::Noise;
 use crate::packets::{self, command, data, range};
 use crate::profiles as made;
+use crate::subject::Subject;
 use crate::systematic::{Case, Outcome};
-use indraveck_model::{self as model, Found, Profile, Replayed};
+use indraveck_model::{self as model, Entry, Found, Profile, Replayed};
 use proptest::collection::vec;
 use proptest::prelude::*;
 
@@ -17,9 +18,11 @@ pub const HOST: u8 = 0x48;
 pub const DEVICE: u8 = 0x44;
 pub const RESET: u8 = 0x52;
 const DIRECTIONS: [u8; 3] = [HOST, DEVICE, RESET];
-const HEAD: usize = 5;
+/// Mark, direction and length.
+pub(crate) const HEAD: usize = 5;
 const LONGEST: usize = 1030;
-const END: u32 = 6;
+/// What reading answers at a recording's end.
+pub(crate) const END: u32 = 6;
 
 /// On both sides of every length that matters, and the largest that can be said.
 const LENGTHS: [usize; 8] = [0, 1, 2, 1029, 1030, 1031, 1032, 0xFFFF];
@@ -131,38 +134,60 @@ impl Pair<'_> {
         Ok(right)
     }
 
-    /// Both replay a recording on an image of their own, of any length.
-    pub fn replay(
+    /// Both replay a recording, each on an image of its own, of any length. The answer, and the image then.
+    pub(crate) fn replay(
         &self,
         profile: &[u8],
         image: &[u8],
         recording: &[u8],
-    ) -> Result<Replayed, String> {
-        let lent = [Guarded::new(profile), Guarded::new(recording)];
+    ) -> Result<(Replayed, Guarded), String> {
+        let read_only = [Guarded::new(profile), Guarded::new(recording)];
         let (mut one, mut other) = (Guarded::new(image), Guarded::new(image));
-        let [profile_lent, recording_lent] = [lent[0].lent(), lent[1].lent()];
-        let tested = self
-            .tested
-            .replay(profile_lent, one.lent_mut(), recording_lent);
-        let right = self
-            .model
-            .replay(profile_lent, other.lent_mut(), recording_lent);
-        let guarded = [&lent[0], &lent[1], &one, &other];
+        let run = |subject: &dyn Subject, image: &mut Guarded| {
+            subject.replay(read_only[0].lent(), image.lent_mut(), read_only[1].lent())
+        };
+        let tested = run(self.tested, &mut one);
+        let right = run(self.model, &mut other);
         self.happened(effects::replay_ended(right.ended));
         if other.lent() != image {
             self.happened("replay changed flash");
         }
-        let compared = if guarded.iter().any(|slice| !slice.is_guarded())
-            || profile_lent != profile
-            || recording_lent != recording
-        {
-            Err("what is only read or what is around it changed".to_string())
+        let left = read_only[0].lent() == profile && read_only[1].lent() == recording;
+        let guarded = [&read_only[0], &read_only[1], &one, &other];
+        let compared = if !left || guarded.iter().any(|slice| !slice.is_guarded()) {
+            Err("what is only read changed, or what is around it or the image".to_string())
         } else {
             self.same("the replay", tested, right)
                 .and_then(|()| self.same_bytes("the image", one.lent(), other.lent()))
         };
         compared.map_err(|difference| format!("replay of {}: {}", hex(recording), difference))?;
-        Ok(right)
+        Ok((right, one))
+    }
+
+    /// A line's record as a recording: a request and its reply right behind each other, and the resets. Both write it, record by record.
+    pub(crate) fn tape(&self, entries: &[Entry]) -> Result<Vec<u8>, String> {
+        let mut recording = Vec::new();
+        let mut put = |direction: u8, bytes: &[u8]| -> Outcome {
+            let length = HEAD + bytes.len();
+            let (mut one, mut other) = (vec![0x77; length], vec![0x77; length]);
+            let direction = u32::from(direction);
+            let tested = self.tested.write_record(&mut one, 0, direction, bytes);
+            let right = self.model.write_record(&mut other, 0, direction, bytes);
+            self.same("the answer to a record", tested, right)?;
+            self.same_bytes("a record", &one, &other)?;
+            recording.extend(one);
+            Ok(())
+        };
+        for entry in entries {
+            match entry {
+                Entry::Exchange { request, reply } => {
+                    put(HOST, request)?;
+                    put(DEVICE, reply)?;
+                }
+                Entry::Reset => put(RESET, &[])?,
+            }
+        }
+        Ok(recording)
     }
 }
 
@@ -865,7 +890,7 @@ fn replay_it(
         }
         _ => {}
     }
-    let replayed = pair.replay(&profile, &image, bytes)?;
+    let (replayed, _) = pair.replay(&profile, &image, bytes)?;
     let expected = match replayed.refusal {
         0 => (read, ended),
         _ => (0, 0),
