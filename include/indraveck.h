@@ -1,7 +1,8 @@
 /* The proved stand-in for a microcontroller in serial boot mode, for C99 and C++. Link libindraveck.a.
  *
- * Bytes that a host sends go in, reply bytes come out, and the flash is an array of yours. Five functions: start, feed and reset are the
- * device, payload looks into a packet, replay does a recorded line over again. A device that answers what it received:
+ * Bytes that a host sends go in, reply bytes come out, and the flash is an array of yours. Seven functions: start, feed and reset are the
+ * device, payload looks into a packet, read_record and write_record are a recorded line record by record, replay does one over
+ * again. A device that answers what it received:
  *
  *     struct device {
  *         uint8_t profile[INDRAVECK_PROFILE_BYTES];
@@ -39,14 +40,14 @@
  * soon as the reply was sent, and so are the receive bytes behind those held.
  *
  * Pointers: a slice passes as a pointer and a length. The pointer of a slice with a length is not null and lends that many bytes; a
- * slice of length 0 may have any pointer, null too. consumed, reply_len, start, length and read are never null. Nothing that is
- * passed to one call overlaps. Within that every call is legal: wrong lengths and contents are refused with their number, and nothing
- * outside the lent slices is touched.
+ * slice of length 0 may have any pointer, null too. consumed, reply_len, start, length, from, to, read and ended are never null.
+ * Nothing that is passed to one call overlaps. Within that every call is legal: wrong lengths and contents are refused with their
+ * number, and nothing outside the lent slices is touched.
  *
  * Threads: the library keeps nothing from one call to the next, and calls nothing but memcpy and memset. Calls may run at once if what
  * one of them writes is used by no other; a profile, which is only read, may be shared.
  *
- * All numbers in profile and state go high byte first.
+ * All numbers in profile, state and recording go high byte first.
  */
 #ifndef INDRAVECK_H
 #define INDRAVECK_H
@@ -59,9 +60,9 @@ extern "C" {
 #endif
 
 #define INDRAVECK_VERSION_MAJOR 0
-#define INDRAVECK_VERSION_MINOR 2
+#define INDRAVECK_VERSION_MINOR 3
 #define INDRAVECK_VERSION_PATCH 0
-#define INDRAVECK_VERSION "0.2.0"
+#define INDRAVECK_VERSION "0.3.0"
 
 /* What start, reset, feed and replay answer: 0, or the number of the first refusal that applies, looked for in this order. */
 #define INDRAVECK_ACCEPTED 0
@@ -120,6 +121,26 @@ extern "C" {
 #define INDRAVECK_LOW_PULSES_ONE 1
 #define INDRAVECK_LOW_PULSES_ACKNOWLEDGED 2
 
+/* A recording is records one behind the other, with nothing before, between or behind them; no byte at all is one without records. A
+ * record is a head of five bytes (the mark 52h 4Ch, a direction, a length in two bytes) and as many bytes as the length says: 1 to 1,030,
+ * the length of the longest packet, and none for a reset. */
+#define INDRAVECK_RECORD_HEAD_BYTES 5
+
+/* The directions. */
+#define INDRAVECK_RECORD_HOST 0x48   /* what a host sent */
+#define INDRAVECK_RECORD_DEVICE 0x44 /* what the device sent */
+#define INDRAVECK_RECORD_RESET 0x52  /* the device was reset */
+
+/* What read_record and write_record answer where they do not answer a direction, and what replay leaves in `ended`. Neither function
+ * ever answers 0, so that a number which nobody wrote is not taken for an answer. */
+#define INDRAVECK_RECORD_NOT_READ 0      /* nothing was read; only in `ended`, where the replay was refused */
+#define INDRAVECK_RECORD_BAD_MARK 1      /* the record does not begin with 52h 4Ch */
+#define INDRAVECK_RECORD_BAD_DIRECTION 2 /* its direction is none of the three */
+#define INDRAVECK_RECORD_BAD_LENGTH 3    /* its length is not 1 to 1,030, or that of a reset not 0 */
+#define INDRAVECK_RECORD_CUT_SHORT 4     /* the recording ends before the record does, or before the place */
+#define INDRAVECK_RECORD_NO_ROOM 5       /* the buffer ends before the record would; only from write_record */
+#define INDRAVECK_RECORD_END 6           /* all was read; only from read_record, and in `ended` */
+
 /* Writes a fresh state; a refused start (4 or 1) writes 33 zeros. State bytes of another length are refused with 5 and left. */
 uint32_t indraveck_start(const uint8_t *profile, size_t profile_len,
                          const uint8_t *image, size_t image_len,
@@ -148,19 +169,86 @@ uint32_t indraveck_feed(const uint8_t *profile, size_t profile_len,
 uint32_t indraveck_payload(const uint8_t *receive, size_t receive_len, size_t count,
                            uint64_t *start, uint64_t *length);
 
-/* Replays a recorded line on the image: what each request that was answered OK erased or wrote. `read` is always written: how many of
- * the recording's bytes could be read, all unless there is a record that cannot be, with which the reading ends. A refused replay
- * (4 or 1) writes 0 there and leaves the image.
+/* Reads the one record that begins at the place `at`. Answers its direction; or INDRAVECK_RECORD_END if `at` is the recording's length,
+ * so that nothing is left; or why there is no record to be read, 1 to 4.
  *
- * A recording is records one behind the other: a mark 52h 4Ch, a direction (48h host, 44h device, 52h reset), a length in two bytes,
- * high byte first, and that many bytes. Each request is one host record, with the reply as the device record right behind it.
- * A record without its partner does nothing: a host record that no device record follows at once, a device record with no host record
- * right before it. A request in two host records is not put together, and does nothing: its first piece has no partner, and its second
- * is no whole packet (one that happens to be counts as the request). */
+ * `from` and `to` are always written. With a direction, the record's bytes are those from recording[from] up to before recording[to]
+ * (for a reset the two are equal), and the next record begins at `to`. With any other answer both are `at`: the place stays. Nothing
+ * else changes.
+ *
+ * Each field is judged as soon as it is whole, and before the next one is looked for:
+ *  - the mark: with fewer than two bytes left the record is cut short, whatever they are; if it is not 52h 4Ch it is a bad mark;
+ *  - the direction: with no byte left cut short; if it is none of the three a bad direction;
+ *  - the length: with fewer than two bytes left cut short; if it is not 1 to 1,030, for a reset not 0, a bad length;
+ *  - the bytes: with fewer left than the length says cut short.
+ * So of the bytes 52 4C 49 the direction is bad, of 52 4C 48 FF FF the length, and 52 4C 48 FF are cut short. A place behind the
+ * recording's end is cut short too, however far behind it is.
+ *
+ * All records of a recording:
+ *
+ *     // INDRAVECK_RECORD_END if on_record got them all; any other answer is why the record at *at cannot be read
+ *     uint32_t each_record(const uint8_t *recording, size_t recording_len, size_t *at)
+ *     {
+ *         uint64_t from, to;
+ *
+ *         for (*at = 0;; *at = (size_t)to) {
+ *             uint32_t answer = indraveck_read_record(recording, recording_len, *at, &from, &to);
+ *             if (answer != INDRAVECK_RECORD_HOST && answer != INDRAVECK_RECORD_DEVICE && answer != INDRAVECK_RECORD_RESET)
+ *                 return answer;
+ *             on_record(answer, recording + from, (size_t)(to - from));
+ *         }
+ *     }
+ */
+uint32_t indraveck_read_record(const uint8_t *recording, size_t recording_len, size_t at,
+                               uint64_t *from, uint64_t *to);
+
+/* Writes one record into the buffer, beginning at the place `at`. Answers its direction; or why it was not written, the first of these
+ * that applies:
+ *  - INDRAVECK_RECORD_BAD_DIRECTION: `direction`, which may be any number, also above 255, is none of the three;
+ *  - INDRAVECK_RECORD_BAD_LENGTH: `bytes_len`, which becomes the record's length, is not 1 to 1,030, for a reset not 0;
+ *  - INDRAVECK_RECORD_NO_ROOM: the record does not fit whole: `at` + 5 + `bytes_len`, however large, is above `buffer_len`.
+ * The answer says that the record was written if it is one of the three directions, not if it is the argument: a direction of 2 is
+ * answered by 2, and is bad.
+ *
+ * `to` is always written: the place behind the record, where the next one goes, or `at` if it was not written. Then nothing is
+ * written into the buffer either; otherwise every byte before `at` and from `to` on is as it was.
+ *
+ * A recording that grows:
+ *
+ *     struct recording {
+ *         uint8_t bytes[RECORDING_BYTES];
+ *         size_t len; // how many of them are the recording; 0 at first
+ *     };
+ *
+ *     uint32_t append(struct recording *r, uint32_t direction, const uint8_t *bytes, size_t bytes_len)
+ *     {
+ *         uint64_t to;
+ *         uint32_t answer = indraveck_write_record(r->bytes, sizeof r->bytes, r->len, direction, bytes, bytes_len, &to);
+ *
+ *         r->len = (size_t)to; // as it was, if the record was not written
+ *         return answer;
+ *     }
+ */
+uint32_t indraveck_write_record(uint8_t *buffer, size_t buffer_len, size_t at, uint32_t direction,
+                                const uint8_t *bytes, size_t bytes_len, uint64_t *to);
+
+/* Replays a recorded line on the image: what each request that was answered OK erased or wrote. A refused replay (4 or 1) leaves the
+ * image.
+ *
+ * `read` and `ended` are always written: how many of the recording's bytes were read, and why no more. INDRAVECK_RECORD_END: it was read
+ * to its end, and `read` is its length. INDRAVECK_RECORD_BAD_MARK to INDRAVECK_RECORD_CUT_SHORT: the record at the place `read` cannot be
+ * read, for the reason that read_record gives; the records before it were replayed, and none behind it. INDRAVECK_RECORD_NOT_READ, with
+ * `read` 0: the replay was refused. So a whole recording was replayed if the answer is INDRAVECK_ACCEPTED and `ended` is
+ * INDRAVECK_RECORD_END.
+ *
+ * Each request is one host record, with the reply as the device record right behind it. A record without its partner does nothing: a host
+ * record that no device record follows at once, a device record with no host record right before it. A request in two host records is
+ * not put together, and does nothing: its first piece has no partner, and its second is no whole packet (one that happens to be counts
+ * as the request). */
 uint32_t indraveck_replay(const uint8_t *profile, size_t profile_len,
                           uint8_t *image, size_t image_len,
                           const uint8_t *recording, size_t recording_len,
-                          uint64_t *read);
+                          uint64_t *read, uint32_t *ended);
 
 #ifdef __cplusplus
 }

@@ -7,11 +7,19 @@ use indraveck_evidence::{Model, Subject};
 /// The right model. The proved library is its rival.
 pub const MODEL: Model = Model(None);
 
+/// What a row's subject does.
+enum Work<'a> {
+    Feed(&'a Script, Delivery),
+    /// Reads the session's recording.
+    Read,
+    /// Writes it down again.
+    Write,
+}
+
 pub struct Row<'a> {
     pub name: String,
     pub session: &'a Session,
-    script: &'a Script,
-    pub delivery: Delivery,
+    work: Work<'a>,
     /// Before each round, not measured.
     prepare: fn(&Session, &mut Memory),
     /// Before the script, where it doesn't wake up by itself.
@@ -40,14 +48,22 @@ impl Row<'_> {
         }
     }
 
-    /// What is measured. How many reply bytes came.
+    /// What is measured. How many reply bytes came, or how many bytes a recording has.
     pub fn run(&self, subject: &dyn Subject, memory: &mut Memory) -> usize {
-        self.session
-            .run(subject, memory, self.script, self.delivery)
+        match self.work {
+            Work::Feed(script, delivery) => self.session.run(subject, memory, script, delivery),
+            Work::Read => self.session.read_tape(subject),
+            Work::Write => self.session.write_tape(subject, memory),
+        }
     }
 
-    pub fn check(&self, memory: &Memory, replied: usize) {
-        (self.check)(self.session, memory, replied);
+    pub fn check(&self, memory: &Memory, count: usize) {
+        (self.check)(self.session, memory, count);
+    }
+
+    /// Whether a round takes millions of calls.
+    pub fn is_long(&self) -> bool {
+        matches!(self.work, Work::Feed(_, Delivery::Bytes)) && self.session.size() > 0x1_0000
     }
 }
 
@@ -57,8 +73,7 @@ fn whole(session: &Session, delivery: Delivery) -> Row {
     Row {
         name: format!("session of {}, {}", session.name(), delivery.name()),
         session,
-        script: &session.whole,
-        delivery,
+        work: Work::Feed(&session.whole, delivery),
         prepare: nothing,
         wake_up: false,
         check: Session::check_whole,
@@ -75,8 +90,7 @@ fn parts(session: &Session) -> Vec<Row> {
     let part = |name: String, script| Row {
         name,
         session,
-        script,
-        delivery: Delivery::Packets,
+        work: Work::Feed(script, Delivery::Packets),
         prepare: nothing,
         wake_up: true,
         check: |_, _, _| {},
@@ -131,12 +145,49 @@ fn parts(session: &Session) -> Vec<Row> {
     ]
 }
 
-/// The table: whole sessions of both sizes in every delivery, and the parts of the large one.
+/// The recording of a session, read and written.
+fn recordings(session: &Session) -> Vec<Row> {
+    let size = session.size_name();
+    let row = |name: String, work| Row {
+        name,
+        session,
+        work,
+        prepare: nothing,
+        wake_up: false,
+        check: |_, _, _| {},
+        limit: |_, _| 0,
+    };
+    vec![
+        Row {
+            check: |session, _, count| session.check_tape_read(count),
+            limit: |session, _| session.walk_plainly(),
+            ..row(
+                format!("recording of a session of {} read, beside a walk", size),
+                Work::Read,
+            )
+        },
+        Row {
+            prepare: Session::clear_tape,
+            check: |session, memory, _| session.check_tape_written(memory),
+            limit: |session, memory| {
+                session.copy_tape_plainly(memory);
+                memory.back.len()
+            },
+            ..row(
+                format!("recording of a session of {} written, beside copy", size),
+                Work::Write,
+            )
+        },
+    ]
+}
+
+/// The table: whole sessions of both sizes in every delivery, the parts of the large one, and its recording.
 pub fn rows<'a>(small: &'a Session, large: &'a Session) -> Vec<Row<'a>> {
     let mut rows = Vec::new();
     for session in [small, large] {
         rows.extend(DELIVERIES.iter().map(|delivery| whole(session, *delivery)));
     }
     rows.extend(parts(large));
+    rows.extend(recordings(large));
     rows
 }

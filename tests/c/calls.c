@@ -1,4 +1,4 @@
-/* The header and the library from C: its names, its example, a session on a small profile, and calls that are refused. */
+/* The header and the library from C: its names, its examples, a session on a small profile, recordings, and calls that are refused. */
 #include "indraveck.h"
 
 #include <stdio.h>
@@ -6,6 +6,7 @@
 
 /* 2,048 of user area and 16 of config */
 #define FLASH_BYTES 2064
+#define RECORDING_BYTES 100
 #define GUARD 16
 
 static int failures;
@@ -28,6 +29,20 @@ static void send_to_host(const uint8_t *bytes, size_t length)
 }
 
 #include "example.c"
+
+/* what the example of reading hands on: each direction and the number of its bytes, and all bytes behind each other */
+static char said[200];
+static uint8_t seen[2 * INDRAVECK_BUFFER_BYTES];
+static size_t seen_len;
+
+static void on_record(uint32_t direction, const uint8_t *bytes, size_t length)
+{
+    sprintf(said + strlen(said), "%02X %d, ", (unsigned)direction, (int)length);
+    memcpy(seen + seen_len, bytes, length);
+    seen_len += length;
+}
+
+#include "recording.c"
 
 static void put_four(uint8_t *at, uint32_t n)
 {
@@ -95,7 +110,8 @@ static void names(void)
     uint32_t refusal;
     int known = 0;
 
-#if INDRAVECK_ACCEPTED != 0 || INDRAVECK_UNFIT_STATE != 5 || 100 * INDRAVECK_VERSION_MAJOR + INDRAVECK_VERSION_MINOR < 2
+#if INDRAVECK_ACCEPTED != 0 || INDRAVECK_UNFIT_STATE != 5 || 100 * INDRAVECK_VERSION_MAJOR + INDRAVECK_VERSION_MINOR < 3 \
+    || INDRAVECK_RECORD_HOST != 0x48 || INDRAVECK_RECORD_END != 6
 #error "the preprocessor does not see the header's numbers"
 #endif
     sprintf(version, "%d.%d.%d", INDRAVECK_VERSION_MAJOR, INDRAVECK_VERSION_MINOR, INDRAVECK_VERSION_PATCH);
@@ -112,6 +128,22 @@ static void names(void)
         }
     }
     check(known == 6, "every answer from 0 to 5 has a name");
+    for (known = 0, refusal = 0; refusal < 256; refusal++) {
+        switch (refusal) {
+        case INDRAVECK_RECORD_NOT_READ:
+        case INDRAVECK_RECORD_BAD_MARK:
+        case INDRAVECK_RECORD_BAD_DIRECTION:
+        case INDRAVECK_RECORD_BAD_LENGTH:
+        case INDRAVECK_RECORD_CUT_SHORT:
+        case INDRAVECK_RECORD_NO_ROOM:
+        case INDRAVECK_RECORD_END:
+        case INDRAVECK_RECORD_HOST:
+        case INDRAVECK_RECORD_DEVICE:
+        case INDRAVECK_RECORD_RESET:
+            known++;
+        }
+    }
+    check(known == 10, "no two answers about records share a number");
     check(INDRAVECK_PROFILE_AT_AREAS + INDRAVECK_PROFILE_AREAS * INDRAVECK_AREA_BYTES == INDRAVECK_PROFILE_BYTES, "the areas fill the profile");
     check(INDRAVECK_STATE_AT_HELD + 4 == INDRAVECK_STATE_BYTES, "the held count ends the state");
 }
@@ -215,7 +247,9 @@ static void what_is_kept(void)
 static void empty_slices(const uint8_t *profile, uint8_t *image, uint8_t *nowhere)
 {
     uint8_t state[INDRAVECK_STATE_BYTES];
+    uint8_t buffer[INDRAVECK_RECORD_HEAD_BYTES];
     uint64_t start = 99, length = 99, read = 99;
+    uint32_t ended = 99;
 
     check(indraveck_start(nowhere, 0, image, FLASH_BYTES, state, 33) == INDRAVECK_UNACCEPTABLE_PROFILE, "start without a profile");
     check(indraveck_start(profile, 156, nowhere, 0, state, 33) == INDRAVECK_WRONG_IMAGE_LENGTH, "start without an image");
@@ -225,8 +259,23 @@ static void empty_slices(const uint8_t *profile, uint8_t *image, uint8_t *nowher
     check(indraveck_payload(nowhere, 0, 0, &start, &length) == 0 && start == 0 && length == 0, "payload of nothing");
     check(indraveck_payload(nowhere, 0, 6, &start, &length) == 0, "payload of more than there is");
     check(indraveck_payload(nowhere, 0, (size_t)-1, &start, &length) == 0, "payload of any count");
-    check(indraveck_replay(profile, 156, image, FLASH_BYTES, nowhere, 0, &read) == INDRAVECK_ACCEPTED && read == 0, "replay of nothing");
-    check(indraveck_replay(nowhere, 0, nowhere, 0, nowhere, 0, &read) == INDRAVECK_UNACCEPTABLE_PROFILE, "replay without anything");
+    check(indraveck_replay(profile, 156, image, FLASH_BYTES, nowhere, 0, &read, &ended) == INDRAVECK_ACCEPTED && read == 0
+              && ended == INDRAVECK_RECORD_END,
+          "replay of nothing");
+    check(indraveck_replay(nowhere, 0, nowhere, 0, nowhere, 0, &read, &ended) == INDRAVECK_UNACCEPTABLE_PROFILE
+              && ended == INDRAVECK_RECORD_NOT_READ,
+          "replay without anything");
+    start = length = 99;
+    check(indraveck_read_record(nowhere, 0, 0, &start, &length) == INDRAVECK_RECORD_END && start == 0 && length == 0, "the end of nothing");
+    check(indraveck_read_record(nowhere, 0, 1, &start, &length) == INDRAVECK_RECORD_CUT_SHORT && start == 1 && length == 1,
+          "a place behind nothing");
+    check(indraveck_write_record(nowhere, 0, 0, INDRAVECK_RECORD_RESET, nowhere, 0, &length) == INDRAVECK_RECORD_NO_ROOM && length == 0,
+          "a record without a buffer");
+    check(indraveck_write_record(buffer, sizeof buffer, 0, INDRAVECK_RECORD_RESET, nowhere, 0, &length) == INDRAVECK_RECORD_RESET
+              && length == 5,
+          "a reset without bytes");
+    check(indraveck_write_record(nowhere, 0, 0, INDRAVECK_RECORD_HOST, nowhere, 0, &length) == INDRAVECK_RECORD_BAD_LENGTH && length == 0,
+          "a record without anything");
 }
 
 static void empty_feeds(struct device *d, uint8_t *nowhere)
@@ -257,26 +306,228 @@ static void any_pointer(uint8_t *nowhere)
 }
 
 /* A recording of an erase of 10h to 1Fh that was answered OK changes the image; a refusal leaves it. */
+static const uint8_t erase_ok[] = {
+    0x52, 0x4C, 0x48, 0x00, 0x0E, 0x01, 0x00, 0x09, 0x12, 0x00, 0x00, 0x00, 0x10, 0x00, 0x00, 0x00, 0x1F, 0xB6, 0x03,
+    0x52, 0x4C, 0x44, 0x00, 0x07, 0x81, 0x00, 0x02, 0x12, 0x00, 0xEC, 0x03};
+
 static void replays(const uint8_t *profile)
 {
-    static const uint8_t recording[] = {
-        0x52, 0x4C, 0x48, 0x00, 0x0E, 0x01, 0x00, 0x09, 0x12, 0x00, 0x00, 0x00, 0x10, 0x00, 0x00, 0x00, 0x1F, 0xB6, 0x03,
-        0x52, 0x4C, 0x44, 0x00, 0x07, 0x81, 0x00, 0x02, 0x12, 0x00, 0xEC, 0x03};
+    const uint8_t *recording = erase_ok;
     uint8_t image[FLASH_BYTES], before[FLASH_BYTES], expected[FLASH_BYTES];
     uint64_t read = 99;
+    uint32_t ended = 99;
 
     memset(image, 0x5A, sizeof image);
     memcpy(before, image, sizeof image);
     memcpy(expected, image, sizeof image);
     memset(expected + 0x10, 0xFF, 0x10);
-    check(indraveck_replay(profile, 155, image, FLASH_BYTES, recording, 31, &read) == 4 && read == 0, "a replay with a short profile is refusal 4");
-    read = 99;
-    check(indraveck_replay(profile, 156, image, FLASH_BYTES - 1, recording, 31, &read) == 1 && read == 0, "a replay on a short image is refusal 1");
+    check(indraveck_replay(profile, 155, image, FLASH_BYTES, recording, 31, &read, &ended) == 4 && read == 0
+              && ended == INDRAVECK_RECORD_NOT_READ,
+          "a replay with a short profile is refusal 4");
+    read = ended = 99;
+    check(indraveck_replay(profile, 156, image, FLASH_BYTES - 1, recording, 31, &read, &ended) == 1 && read == 0
+              && ended == INDRAVECK_RECORD_NOT_READ,
+          "a replay on a short image is refusal 1");
     check(memcmp(image, before, FLASH_BYTES) == 0, "a refused replay leaves the image");
-    check(indraveck_replay(profile, 156, image, FLASH_BYTES, recording, 30, &read) == 0 && read == 19, "a record that is cut is not read");
+    check(indraveck_replay(profile, 156, image, FLASH_BYTES, recording, 30, &read, &ended) == 0 && read == 19
+              && ended == INDRAVECK_RECORD_CUT_SHORT,
+          "a record that is cut is not read");
     check(memcmp(image, before, FLASH_BYTES) == 0, "an erase without its answer changes nothing");
-    check(indraveck_replay(profile, 156, image, FLASH_BYTES, recording, 31, &read) == 0 && read == 31, "a whole recording is read");
+    check(indraveck_replay(profile, 156, image, FLASH_BYTES, recording, 31, &read, &ended) == 0 && read == 31
+              && ended == INDRAVECK_RECORD_END,
+          "a whole recording is read");
     check(memcmp(image, expected, FLASH_BYTES) == 0, "an erase that was answered OK is replayed");
+}
+
+/* Why a replay ends: the session is replayed up to the record that cannot be read, and `ended` says why. */
+static void replays_end(const uint8_t *profile)
+{
+    static const struct {
+        uint8_t bytes[6];
+        size_t len;
+        uint32_t ended;
+    } rows[] = {
+        {{0}, 0, INDRAVECK_RECORD_END},
+        {{0x52, 0x4D}, 2, INDRAVECK_RECORD_BAD_MARK},
+        {{0x52, 0x4C, 0x49}, 3, INDRAVECK_RECORD_BAD_DIRECTION},
+        {{0x52, 0x4C, 0x44, 0x00, 0x00}, 5, INDRAVECK_RECORD_BAD_LENGTH},
+        {{0x52, 0x4C, 0x52, 0x00, 0x01, 0x00}, 6, INDRAVECK_RECORD_BAD_LENGTH},
+        {{0x52, 0x4C, 0x48, 0x04, 0x07}, 5, INDRAVECK_RECORD_BAD_LENGTH},
+        {{0x52, 0x4C, 0x48, 0x04, 0x06}, 5, INDRAVECK_RECORD_CUT_SHORT},
+    };
+    uint8_t image[FLASH_BYTES], recording[sizeof erase_ok + 6];
+    uint64_t read;
+    uint32_t ended;
+    size_t row;
+
+    memcpy(recording, erase_ok, sizeof erase_ok);
+    for (row = 0; row < sizeof rows / sizeof rows[0]; row++) {
+        memset(image, 0x5A, sizeof image);
+        memcpy(recording + sizeof erase_ok, rows[row].bytes, rows[row].len);
+        read = ended = 99;
+        check(indraveck_replay(profile, 156, image, FLASH_BYTES, recording, sizeof erase_ok + rows[row].len, &read, &ended)
+                      == INDRAVECK_ACCEPTED && read == sizeof erase_ok && ended == rows[row].ended,
+              "a replay says why it ended");
+        check(image[0x0F] == 0x5A && image[0x10] == 0xFF && image[0x1F] == 0xFF && image[0x20] == 0x5A,
+              "what stands before the end is replayed");
+    }
+}
+
+/* Every answer of read_record, and the places that come with it. */
+static void records_read(void)
+{
+    static const struct {
+        uint8_t bytes[8];
+        size_t len, at;
+        uint32_t answer;
+        uint64_t from, to;
+    } rows[] = {
+        {{0x52, 0x4C, 0x48, 0x00, 0x02, 0x01, 0x00}, 7, 0, INDRAVECK_RECORD_HOST, 5, 7},
+        {{0x00, 0x52, 0x4C, 0x44, 0x00, 0x01, 0xC3, 0x52}, 8, 1, INDRAVECK_RECORD_DEVICE, 6, 7},
+        {{0x52, 0x4C, 0x52, 0x00, 0x00}, 5, 0, INDRAVECK_RECORD_RESET, 5, 5},
+        {{0x52, 0x4C, 0x52, 0x00, 0x00}, 5, 5, INDRAVECK_RECORD_END, 5, 5},
+        {{0x52, 0x4C, 0x52, 0x00, 0x00}, 5, 6, INDRAVECK_RECORD_CUT_SHORT, 6, 6},
+        {{0x52, 0x4C, 0x52, 0x00, 0x00}, 5, (size_t)-1, INDRAVECK_RECORD_CUT_SHORT, (size_t)-1, (size_t)-1},
+        /* the mark */
+        {{0x52}, 1, 0, INDRAVECK_RECORD_CUT_SHORT, 0, 0},
+        {{0x00}, 1, 0, INDRAVECK_RECORD_CUT_SHORT, 0, 0},
+        {{0x52, 0x00}, 2, 0, INDRAVECK_RECORD_BAD_MARK, 0, 0},
+        {{0x4C, 0x52}, 2, 0, INDRAVECK_RECORD_BAD_MARK, 0, 0},
+        {{0x00, 0x4C, 0x49, 0xFF, 0xFF}, 5, 0, INDRAVECK_RECORD_BAD_MARK, 0, 0},
+        {{0x52, 0x4C, 0x52, 0x00, 0x00}, 5, 1, INDRAVECK_RECORD_BAD_MARK, 1, 1},
+        /* the direction */
+        {{0x52, 0x4C}, 2, 0, INDRAVECK_RECORD_CUT_SHORT, 0, 0},
+        {{0x52, 0x4C, 0x49}, 3, 0, INDRAVECK_RECORD_BAD_DIRECTION, 0, 0},
+        {{0x52, 0x4C, 0x00, 0xFF, 0xFF}, 5, 0, INDRAVECK_RECORD_BAD_DIRECTION, 0, 0},
+        /* the length */
+        {{0x52, 0x4C, 0x48}, 3, 0, INDRAVECK_RECORD_CUT_SHORT, 0, 0},
+        {{0x52, 0x4C, 0x48, 0xFF}, 4, 0, INDRAVECK_RECORD_CUT_SHORT, 0, 0},
+        {{0x52, 0x4C, 0x48, 0xFF, 0xFF}, 5, 0, INDRAVECK_RECORD_BAD_LENGTH, 0, 0},
+        {{0x52, 0x4C, 0x48, 0x04, 0x07}, 5, 0, INDRAVECK_RECORD_BAD_LENGTH, 0, 0},
+        {{0x52, 0x4C, 0x48, 0x00, 0x00}, 5, 0, INDRAVECK_RECORD_BAD_LENGTH, 0, 0},
+        {{0x52, 0x4C, 0x44, 0x00, 0x00}, 5, 0, INDRAVECK_RECORD_BAD_LENGTH, 0, 0},
+        {{0x52, 0x4C, 0x52, 0x00, 0x01, 0x00}, 6, 0, INDRAVECK_RECORD_BAD_LENGTH, 0, 0},
+        /* the bytes */
+        {{0x52, 0x4C, 0x48, 0x04, 0x06}, 5, 0, INDRAVECK_RECORD_CUT_SHORT, 0, 0},
+        {{0x52, 0x4C, 0x44, 0x00, 0x02, 0x81}, 6, 0, INDRAVECK_RECORD_CUT_SHORT, 0, 0},
+    };
+    uint64_t from, to;
+    size_t row;
+    char what[40];
+
+    for (row = 0; row < sizeof rows / sizeof rows[0]; row++) {
+        sprintf(what, "row %d of what is read", (int)row);
+        from = to = 99;
+        check(indraveck_read_record(rows[row].bytes, rows[row].len, rows[row].at, &from, &to) == rows[row].answer
+                  && from == rows[row].from && to == rows[row].to,
+              what);
+    }
+}
+
+/* Every answer of write_record, with the place that comes with it and every byte of the buffer, and around it. */
+static void records_written(void)
+{
+    static const struct {
+        size_t room, at;
+        uint32_t direction;
+        size_t count;
+        uint32_t answer;
+        uint64_t to;
+    } rows[] = {
+        {1100, 0, INDRAVECK_RECORD_HOST, 1, INDRAVECK_RECORD_HOST, 6},
+        {1100, 3, INDRAVECK_RECORD_DEVICE, 7, INDRAVECK_RECORD_DEVICE, 15},
+        {1100, 9, INDRAVECK_RECORD_RESET, 0, INDRAVECK_RECORD_RESET, 14},
+        /* the longest, and those that fill the buffer up */
+        {1035, 0, INDRAVECK_RECORD_HOST, 1030, INDRAVECK_RECORD_HOST, 1035},
+        {1042, 7, INDRAVECK_RECORD_DEVICE, 1030, INDRAVECK_RECORD_DEVICE, 1042},
+        {5, 0, INDRAVECK_RECORD_RESET, 0, INDRAVECK_RECORD_RESET, 5},
+        {1034, 0, INDRAVECK_RECORD_HOST, 1030, INDRAVECK_RECORD_NO_ROOM, 0},
+        {1041, 7, INDRAVECK_RECORD_DEVICE, 1030, INDRAVECK_RECORD_NO_ROOM, 7},
+        {4, 0, INDRAVECK_RECORD_RESET, 0, INDRAVECK_RECORD_NO_ROOM, 0},
+        /* only its head would fit, nothing would, and places that no buffer has */
+        {20, 15, INDRAVECK_RECORD_HOST, 1, INDRAVECK_RECORD_NO_ROOM, 15},
+        {20, 20, INDRAVECK_RECORD_HOST, 1, INDRAVECK_RECORD_NO_ROOM, 20},
+        {20, 21, INDRAVECK_RECORD_RESET, 0, INDRAVECK_RECORD_NO_ROOM, 21},
+        {20, (size_t)-1, INDRAVECK_RECORD_HOST, 1, INDRAVECK_RECORD_NO_ROOM, (size_t)-1},
+        {20, (size_t)-6, INDRAVECK_RECORD_HOST, 1, INDRAVECK_RECORD_NO_ROOM, (size_t)-6},
+        {20, (size_t)-5, INDRAVECK_RECORD_RESET, 0, INDRAVECK_RECORD_NO_ROOM, (size_t)-5},
+        /* bad directions: also those that are answers, and those with a good low byte */
+        {1100, 2, 0, 1, INDRAVECK_RECORD_BAD_DIRECTION, 2},
+        {1100, 2, 2, 1, INDRAVECK_RECORD_BAD_DIRECTION, 2},
+        {1100, 2, 5, 1, INDRAVECK_RECORD_BAD_DIRECTION, 2},
+        {1100, 2, 0x49, 1, INDRAVECK_RECORD_BAD_DIRECTION, 2},
+        {1100, 2, 0x148, 1, INDRAVECK_RECORD_BAD_DIRECTION, 2},
+        {1100, 2, 0xFFFFFFFF, 1, INDRAVECK_RECORD_BAD_DIRECTION, 2},
+        /* bad lengths */
+        {1100, 2, INDRAVECK_RECORD_HOST, 0, INDRAVECK_RECORD_BAD_LENGTH, 2},
+        {1100, 2, INDRAVECK_RECORD_DEVICE, 0, INDRAVECK_RECORD_BAD_LENGTH, 2},
+        {1100, 2, INDRAVECK_RECORD_HOST, 1031, INDRAVECK_RECORD_BAD_LENGTH, 2},
+        {1100, 2, INDRAVECK_RECORD_RESET, 1, INDRAVECK_RECORD_BAD_LENGTH, 2},
+        /* the direction before the length, and that before the room */
+        {0, (size_t)-1, 0x49, 0, INDRAVECK_RECORD_BAD_DIRECTION, (size_t)-1},
+        {0, (size_t)-1, INDRAVECK_RECORD_RESET, 1031, INDRAVECK_RECORD_BAD_LENGTH, (size_t)-1},
+    };
+    uint8_t lent[GUARD + 1100 + GUARD], expected[sizeof lent], bytes[1031];
+    uint64_t to;
+    size_t row, at;
+    char what[40];
+
+    for (at = 0; at < sizeof bytes; at++)
+        bytes[at] = (uint8_t)(7 * at + 1);
+    for (row = 0; row < sizeof rows / sizeof rows[0]; row++) {
+        sprintf(what, "row %d of what is written", (int)row);
+        memset(lent, 0xA5, sizeof lent);
+        memset(expected, 0xA5, sizeof expected);
+        if (rows[row].answer > INDRAVECK_RECORD_END) { /* one of the directions, so that it is written */
+            uint8_t *head = expected + GUARD + rows[row].at;
+            head[0] = 0x52;
+            head[1] = 0x4C;
+            head[2] = (uint8_t)rows[row].direction;
+            head[3] = (uint8_t)(rows[row].count >> 8);
+            head[4] = (uint8_t)rows[row].count;
+            memcpy(head + INDRAVECK_RECORD_HEAD_BYTES, bytes, rows[row].count);
+        }
+        to = 99;
+        check(indraveck_write_record(lent + GUARD, rows[row].room, rows[row].at, rows[row].direction, bytes, rows[row].count, &to)
+                      == rows[row].answer && to == rows[row].to,
+              what);
+        check(memcmp(lent, expected, sizeof lent) == 0, what);
+    }
+}
+
+/* The header's examples: a recording that grows until it is full, and is read from its beginning. */
+static void a_recording(void)
+{
+    struct recording r;
+    size_t at = 99, full;
+
+    memset(&r, 0xA5, sizeof r);
+    r.len = 0;
+    said[0] = '\0';
+    check(each_record(r.bytes, r.len, &at) == INDRAVECK_RECORD_END && at == 0 && said[0] == '\0', "no byte at all is a recording");
+    check(append(&r, INDRAVECK_RECORD_HOST, wake, sizeof wake) == INDRAVECK_RECORD_HOST && r.len == 8, "a host record is appended");
+    check(append(&r, INDRAVECK_RECORD_DEVICE, awake, sizeof awake) == INDRAVECK_RECORD_DEVICE && r.len == 15,
+          "a device record is appended");
+    check(append(&r, INDRAVECK_RECORD_RESET, NULL, 0) == INDRAVECK_RECORD_RESET && r.len == 20, "a reset is appended");
+    check(append(&r, INDRAVECK_RECORD_RESET, wake, sizeof wake) == INDRAVECK_RECORD_BAD_LENGTH && r.len == 20, "a reset with bytes is not");
+    check(append(&r, 0, wake, sizeof wake) == INDRAVECK_RECORD_BAD_DIRECTION && r.len == 20, "a record without a direction is not");
+    seen_len = 0;
+    check(each_record(r.bytes, r.len, &at) == INDRAVECK_RECORD_END && at == 20, "what was appended is read");
+    check(strcmp(said, "48 3, 44 2, 52 0, ") == 0, "each record with its direction and its length");
+    check(seen_len == 5 && memcmp(seen, wake, 3) == 0 && memcmp(seen + 3, awake, 2) == 0, "and with its bytes");
+
+    while (append(&r, INDRAVECK_RECORD_HOST, write_data, sizeof write_data) == INDRAVECK_RECORD_HOST)
+        ;
+    full = r.len;
+    check(full == 96 && r.bytes[96] == 0xA5 && r.bytes[99] == 0xA5, "what does not fit whole leaves nothing behind");
+    check(append(&r, INDRAVECK_RECORD_RESET, NULL, 0) == INDRAVECK_RECORD_NO_ROOM && r.len == full, "a full recording stays as it is");
+    said[0] = '\0';
+    seen_len = 0;
+    check(each_record(r.bytes, 19, &at) == INDRAVECK_RECORD_CUT_SHORT && at == 15, "a cut recording is read up to the cut");
+    check(strcmp(said, "48 3, 44 2, ") == 0, "and no further");
+    r.bytes[8] = 0x00;
+    said[0] = '\0';
+    check(each_record(r.bytes, r.len, &at) == INDRAVECK_RECORD_BAD_MARK && at == 8 && strcmp(said, "48 3, ") == 0, "a bad mark ends it");
 }
 
 /* All that a call is lent, with bytes between that nobody may touch. */
@@ -355,6 +606,10 @@ int main(void)
     starts(&lent);
     session(&lent);
     replays(lent.profile);
+    replays_end(lent.profile);
+    records_read();
+    records_written();
+    a_recording();
     if (failures == 0)
         printf("the library answers C as its header says\n");
     return failures != 0;

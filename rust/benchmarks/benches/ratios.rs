@@ -3,7 +3,7 @@
 
 use criterion::black_box;
 use indraveck_benchmarks::{rows, Row, MODEL};
-use indraveck_evidence::session::{machine, Delivery, Memory, Session};
+use indraveck_evidence::session::{machine, Memory, Session};
 #[cfg(feature = "proved")]
 use indraveck_evidence::Proved;
 use indraveck_evidence::Subject;
@@ -22,9 +22,9 @@ fn timed<T>(work: impl FnOnce() -> T) -> Duration {
 
 fn subject(row: &Row, subject: &dyn Subject, memory: &mut Memory) -> Duration {
     row.prepare(subject, memory);
-    let mut replied = 0;
-    let spent = timed(|| replied = row.run(subject, memory));
-    row.check(memory, replied);
+    let mut count = 0;
+    let spent = timed(|| count = row.run(subject, memory));
+    row.check(memory, count);
     spent
 }
 
@@ -40,9 +40,9 @@ fn print(row: &Row) {
         let slot: &mut Option<Duration> = &mut best[column];
         *slot = Some(slot.map_or(spent, |best| best.min(spent)));
     };
-    // millions of calls for the large one byte by byte, long enough to be steady
-    let slow = row.delivery == Delivery::Bytes && row.session.size() > 0x1_0000;
-    for _ in 0..if slow { rounds().min(2) } else { rounds() } {
+    // the large one byte by byte takes long enough to be steady
+    let long = row.is_long();
+    for _ in 0..if long { rounds().min(2) } else { rounds() } {
         if let Some(proved) = PROVED {
             take(0, subject(row, proved, &mut memory));
         }

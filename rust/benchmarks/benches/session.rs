@@ -1,4 +1,4 @@
-//! Whole sessions and their parts, subject by subject.
+//! Whole sessions, their parts and their recordings, subject by subject.
 
 use criterion::{criterion_group, criterion_main, BenchmarkId, Criterion, Throughput};
 use indraveck_evidence::session::{machine, Delivery, Memory, Session, DELIVERIES};
@@ -91,6 +91,25 @@ fn parts(c: &mut Criterion) {
     group.finish();
 }
 
+fn recordings(c: &mut Criterion) {
+    let session = Session::new(0x40_0000, 1024);
+    let mut memory = session.memory(&Model(None));
+    let mut group = c.benchmark_group("recording of a session of 4 MB");
+    for (subject_name, subject) in subjects() {
+        group.bench_function(BenchmarkId::new(subject_name, "read"), |b| {
+            b.iter(|| session.read_tape(&*subject))
+        });
+        group.bench_function(BenchmarkId::new(subject_name, "written"), |b| {
+            b.iter(|| session.write_tape(&*subject, &mut memory))
+        });
+    }
+    group.bench_function("plain walk", |b| b.iter(|| session.walk_plainly()));
+    group.bench_function("plain copy", |b| {
+        b.iter(|| session.copy_tape_plainly(&mut memory))
+    });
+    group.finish();
+}
+
 criterion_group! {
     name = benches;
     config = Criterion::default()
@@ -100,6 +119,6 @@ criterion_group! {
         // the default of 100,000 takes minutes for each row under an emulator
         .nresamples(1_001)
         .without_plots();
-    targets = sessions, parts
+    targets = sessions, parts, recordings
 }
 criterion_main!(benches);

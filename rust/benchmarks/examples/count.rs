@@ -39,14 +39,14 @@ fn main() {
     };
     let row = rows.get(row).unwrap_or_else(|| usage());
     let mut memory = row.memory();
-    let mut replied = 0;
+    let mut count = 0;
     for _ in 0..rounds {
         row.prepare(subject, &mut memory);
         if !idle {
-            replied = row.run(subject, &mut memory);
+            count = row.run(subject, &mut memory);
         }
     }
     if !idle && rounds > 0 {
-        row.check(&memory, replied);
+        row.check(&memory, count);
     }
 }

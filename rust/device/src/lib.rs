@@ -22,6 +22,7 @@
 //! | ask whether it would understand a host's rate | [`Device::matches_rate`] |
 //! | read a profile file | [`profile_file`] |
 //! | say what is wrong with a profile | [`Profile::broken_rules`] |
+//! | write a line down, or read what was written down | [`recording`] |
 //! | do a recorded line over again | [`replay()`] |
 //!
 //! What the device answers and stores is proved in Rattle; [`raw`] has the same functions on plain slices. The library keeps nothing, so
@@ -35,6 +36,7 @@ mod profile;
 pub mod profile_file;
 mod rate;
 pub mod raw;
+pub mod recording;
 mod refusal;
 mod replay;
 mod rules;
@@ -45,7 +47,7 @@ pub use device::{Device, BUFFER_BYTES};
 pub use port::Port;
 pub use profile::{Area, Kind, Profile, AREAS, PROFILE_BYTES};
 pub use refusal::{Refusal, StartError};
-pub use replay::replay;
+pub use replay::{replay, Ended, Replayed};
 pub use rules::Rule;
 pub use saved::Saved;
 pub use state::{Stage, State, STATE_BYTES};

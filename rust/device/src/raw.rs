@@ -1,4 +1,4 @@
-//! The five functions of `include/indraveck.h` on slices. Each takes any slices: what is wrong is refused with its number, and
+//! The seven functions of `include/indraveck.h` on slices. Each takes any slices: what is wrong is refused with its number, and
 //! nothing but the slices is read or written. That is proved of the library, so the calls are safe.
 //!
 //! The header says what stands where in the bytes of a profile and of a state, and what has to be kept between two feeds.
@@ -57,6 +57,22 @@ extern "C" {
         start: *mut u64,
         length: *mut u64,
     ) -> u32;
+    fn indraveck_read_record(
+        recording: *const u8,
+        recording_len: usize,
+        at: usize,
+        from: *mut u64,
+        to: *mut u64,
+    ) -> u32;
+    fn indraveck_write_record(
+        buffer: *mut u8,
+        buffer_len: usize,
+        at: usize,
+        direction: u32,
+        bytes: *const u8,
+        bytes_len: usize,
+        to: *mut u64,
+    ) -> u32;
     fn indraveck_replay(
         profile: *const u8,
         profile_len: usize,
@@ -65,6 +81,7 @@ extern "C" {
         recording: *const u8,
         recording_len: usize,
         read: *mut u64,
+        ended: *mut u32,
     ) -> u32;
 }
 
@@ -169,10 +186,71 @@ pub fn payload(receive: &[u8], count: usize) -> Option<std::ops::Range<usize>> {
     Some(start..start + length as usize)
 }
 
-/// Replays a recorded line on the image: the number of the refusal, 0 for accepted, and how many of the recording's bytes could be read.
+/// What reading one record answered, and where the record's bytes stand.
+#[derive(Clone, Copy, Debug, PartialEq, Eq)]
+pub struct Found {
+    /// The record's direction, 6 at the recording's end, or 1 to 4 for a record that cannot be read; never 0.
+    pub answer: u32,
+    /// Where the record's bytes begin; the place that was asked for if there is no record.
+    pub from: usize,
+    /// Where they end and the next record begins; the place that was asked for if there is no record.
+    pub to: usize,
+}
+
+/// Reads the record at a place of a recording; [`recording::read`](crate::recording::read) has it in words.
 #[inline]
-pub fn replay(profile: &[u8], image: &mut [u8], recording: &[u8]) -> (u32, usize) {
+pub fn read_record(recording: &[u8], at: usize) -> Found {
+    // no place in a slice, so that one which was not written is not taken for one
+    let mut from = u64::MAX;
+    let mut to = u64::MAX;
+    let answer = unsafe {
+        indraveck_read_record(recording.as_ptr(), recording.len(), at, &mut from, &mut to)
+    };
+    // both are places in the recording, or `at`
+    Found {
+        answer,
+        from: from as usize,
+        to: to as usize,
+    }
+}
+
+/// Writes one record at a place of a buffer: its direction if it was written, or 2, 3 or 5, never 0; and the place behind it, or `at` if it
+/// was not written. [`recording::write`](crate::recording::write) has it in words.
+#[inline]
+pub fn write_record(buffer: &mut [u8], at: usize, direction: u32, bytes: &[u8]) -> (u32, usize) {
+    let mut to = u64::MAX;
+    let answer = unsafe {
+        indraveck_write_record(
+            buffer.as_mut_ptr(),
+            buffer.len(),
+            at,
+            direction,
+            bytes.as_ptr(),
+            bytes.len(),
+            &mut to,
+        )
+    };
+    // a place in the buffer, or `at`
+    (answer, to as usize)
+}
+
+/// The number of the refusal, 0 for accepted, and how far a replay read.
+#[derive(Clone, Copy, Debug, PartialEq, Eq)]
+pub struct Replayed {
+    /// The number of the refusal, 0 for accepted; [`Refusal::check`](crate::Refusal::check) has it in words.
+    pub refusal: u32,
+    /// How many of the recording's bytes were read.
+    pub read: usize,
+    /// Why no more: 6 for the recording's end, 1 to 4 for a record that cannot be read, 0 if the replay was refused.
+    pub ended: u32,
+}
+
+/// Replays a recorded line on the image. A refused replay leaves it.
+#[inline]
+pub fn replay(profile: &[u8], image: &mut [u8], recording: &[u8]) -> Replayed {
     let mut read = 0;
+    // no answer, so that one which was not written is not taken for one
+    let mut ended = u32::MAX;
     let refusal = unsafe {
         indraveck_replay(
             profile.as_ptr(),
@@ -182,8 +260,13 @@ pub fn replay(profile: &[u8], image: &mut [u8], recording: &[u8]) -> (u32, usize
             recording.as_ptr(),
             recording.len(),
             &mut read,
+            &mut ended,
         )
     };
     // at most the recording's length
-    (refusal, read as usize)
+    Replayed {
+        refusal,
+        read: read as usize,
+        ended,
+    }
 }

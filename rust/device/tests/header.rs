@@ -3,11 +3,13 @@
 mod common;
 
 use common::{awake, range, write_data};
-use indraveck::{Kind, Profile, Refusal, Stage};
+use indraveck::recording::{Direction, Unreadable, Unwritable, HEAD_BYTES, MOST_BYTES};
+use indraveck::{raw, Kind, Profile, Refusal, Stage};
 use indraveck::{AREAS, BUFFER_BYTES, PROFILE_BYTES, STATE_BYTES};
 
 const HEADER: &str = include_str!("../../../include/indraveck.h");
 const EXAMPLE: &str = include_str!("../../../tests/c/example.c");
+const RECORDING: &str = include_str!("../../../tests/c/recording.c");
 
 /// What the header defines a name as, without the comment.
 fn defined(name: &str) -> &'static str {
@@ -18,7 +20,12 @@ fn defined(name: &str) -> &'static str {
 }
 
 fn number(name: &str) -> usize {
-    defined(name).parse().unwrap()
+    let value = defined(name);
+    match value.strip_prefix("0x") {
+        Some(hex) => usize::from_str_radix(hex, 16),
+        None => value.parse(),
+    }
+    .unwrap()
 }
 
 #[test]
@@ -62,6 +69,41 @@ fn the_headers_numbers_are_the_crates() {
     ] {
         assert_eq!(number(name), usize::from(kind.number()));
     }
+}
+
+#[test]
+fn the_headers_numbers_of_recordings_are_the_crates() {
+    assert_eq!(number("RECORD_HEAD_BYTES"), HEAD_BYTES);
+    assert_eq!(number("BUFFER_BYTES"), MOST_BYTES);
+    for (name, direction) in [
+        ("RECORD_HOST", Direction::Host),
+        ("RECORD_DEVICE", Direction::Device),
+        ("RECORD_RESET", Direction::Reset),
+    ] {
+        assert_eq!(number(name), usize::from(direction.byte()));
+    }
+    for (name, reason) in [
+        ("RECORD_BAD_MARK", Unreadable::BadMark),
+        ("RECORD_BAD_DIRECTION", Unreadable::BadDirection),
+        ("RECORD_BAD_LENGTH", Unreadable::BadLength),
+        ("RECORD_CUT_SHORT", Unreadable::CutShort),
+    ] {
+        assert_eq!(number(name), reason.number() as usize);
+    }
+    for (name, reason) in [
+        ("RECORD_BAD_DIRECTION", Unwritable::BadDirection),
+        ("RECORD_BAD_LENGTH", Unwritable::BadLength),
+        ("RECORD_NO_ROOM", Unwritable::NoRoom),
+    ] {
+        assert_eq!(number(name), reason.number() as usize);
+    }
+    let end = number("RECORD_END") as u32;
+    let not_read = number("RECORD_NOT_READ") as u32;
+    assert_eq!(raw::read_record(&[], 0).answer, end);
+    let profile = Profile::bench().to_bytes().unwrap();
+    let mut image = vec![0xFF; Profile::bench().total() as usize];
+    assert_eq!(raw::replay(&profile, &mut image, &[]).ended, end);
+    assert_eq!(raw::replay(&profile, &mut image[1..], &[]).ended, not_read);
 }
 
 #[test]
@@ -113,17 +155,33 @@ fn the_headers_places_are_those_of_a_saved_state() {
     assert_eq!(four("STATE_AT_HELD"), state.held.to_be_bytes());
 }
 
-#[test]
-fn the_headers_example_is_the_one_that_is_compiled() {
+/// The header's examples, in its order: lines that are indented in a comment.
+fn examples() -> Vec<String> {
     let indented = " *     ";
-    let lines = HEADER
-        .lines()
-        .skip_while(|line| !line.starts_with(indented));
-    let lines = lines.take_while(|line| line.starts_with(indented) || *line == " *");
-    let shown: Vec<&str> = lines
-        .map(|line| line.strip_prefix(indented).unwrap_or(""))
-        .collect();
-    let compiled: Vec<&str> = EXAMPLE.lines().skip(1).collect();
-    assert!(compiled.len() > 10);
-    assert_eq!(shown.join("\n").trim_end(), compiled.join("\n"));
+    let mut examples = Vec::new();
+    let mut lines = HEADER.lines().peekable();
+    while lines.peek().is_some() {
+        let mut example = String::new();
+        while let Some(line) =
+            lines.next_if(|line| line.starts_with(indented) || !example.is_empty() && *line == " *")
+        {
+            example.push_str(line.strip_prefix(indented).unwrap_or(""));
+            example.push('\n');
+        }
+        if !example.is_empty() {
+            examples.push(example.trim_end().to_owned() + "\n");
+        }
+        lines.next();
+    }
+    examples
+}
+
+#[test]
+fn the_headers_examples_are_the_ones_that_are_compiled() {
+    let compiled = |file: &str| file.split_once('\n').unwrap().1.to_owned();
+    let [device, reading, writing]: [String; 3] = examples().try_into().unwrap();
+    assert!(device.lines().count() > 10);
+    assert_eq!(device, compiled(EXAMPLE));
+    assert!(reading.lines().count() > 10 && writing.lines().count() > 10);
+    assert_eq!(reading + "\n" + &writing, compiled(RECORDING));
 }

@@ -3,15 +3,11 @@
 mod common;
 
 use common::{packet, range};
-use indraveck::{replay, Area, Device, Kind, Profile, Refusal};
+use indraveck::recording::{append, records, Direction, Unreadable, UnreadableAt};
+use indraveck::{replay, Area, Device, Ended, Kind, Profile, Refusal, Replayed};
 
-const HOST: u8 = 0x48;
-const DEVICE: u8 = 0x44;
-
-fn record(recording: &mut Vec<u8>, direction: u8, bytes: &[u8]) {
-    recording.extend_from_slice(&[0x52, 0x4C, direction]);
-    recording.extend_from_slice(&(bytes.len() as u16).to_be_bytes());
-    recording.extend_from_slice(bytes);
+fn record(recording: &mut Vec<u8>, direction: Direction, bytes: &[u8]) {
+    append(recording, direction.byte(), bytes).unwrap();
 }
 
 /// A bench device's image before and after an erase, a write and a refused write, and the recording of its line.
@@ -32,8 +28,10 @@ fn session() -> (Vec<u8>, Vec<u8>, Vec<u8>) {
     ];
     let mut recording = Vec::new();
     for request in &requests {
-        record(&mut recording, HOST, request);
-        device.feed(request, |reply| record(&mut recording, DEVICE, reply));
+        record(&mut recording, Direction::Host, request);
+        device.feed(request, |reply| {
+            record(&mut recording, Direction::Device, reply)
+        });
     }
     (before, device.into_image(), recording)
 }
@@ -44,23 +42,66 @@ fn a_recorded_line_makes_the_image_again() {
     assert_ne!(before, after);
     assert_eq!(after[0x2000..0x2003], [0, 1, 2]);
     let mut image = before;
-    let read = replay(&Profile::bench(), &mut image, &recording);
-    assert_eq!(read, Ok(recording.len()));
+    let replayed = replay(&Profile::bench(), &mut image, &recording).unwrap();
+    assert_eq!(replayed.read, recording.len());
+    assert_eq!(replayed.ended, Ended::AtEnd);
+    assert_eq!(replayed.whole(), Ok(()));
     assert_eq!(image, after);
+}
+
+/// What is read of a recording, and that the image is then what it should be.
+fn replayed(before: &[u8], recording: &[u8], expected: &[u8]) -> Replayed {
+    let mut image = before.to_vec();
+    let replayed = replay(&Profile::bench(), &mut image, recording).unwrap();
+    assert_eq!(image, expected);
+    replayed
 }
 
 #[test]
 fn a_record_that_cannot_be_read_ends_the_reading() {
-    let (before, after, mut recording) = session();
-    let whole = recording.len();
-    recording.extend_from_slice(&[0x52, 0x4C, HOST, 0x00, 0x02, 0x01]);
-    let mut image = before.clone();
-    assert_eq!(replay(&Profile::bench(), &mut image, &recording), Ok(whole));
-    assert_eq!(image, after);
-    let mut image = before.clone();
-    assert_eq!(replay(&Profile::bench(), &mut image, &[0x52]), Ok(0));
-    assert_eq!(image, before);
-    assert_eq!(replay(&Profile::bench(), &mut image, &[]), Ok(0));
+    let (before, after, recording) = session();
+    let read = recording.len();
+    // behind the record that cannot be read everything is erased: that has to be left
+    let mut erased = Vec::new();
+    record(&mut erased, Direction::Host, &range(0x12, 0, 0xFFFF));
+    let ok = packet(0x81, &[0x12, 0x00]);
+    record(&mut erased, Direction::Device, &ok);
+    let blank = vec![0xFF; before.len()];
+    assert_eq!(replayed(&before, &erased, &blank).whole(), Ok(()));
+    let longer = [&[0x52, 0x4C, 0x48, 0x04, 0x07][..], &[0x00; 1031]].concat();
+    let unreadable: [(&[u8], Unreadable); 6] = [
+        (&[0x00], Unreadable::BadMark),
+        (&[0x52, 0x4C, 0x00], Unreadable::BadDirection),
+        (&[0x52, 0x4C, 0x44, 0x00, 0x00], Unreadable::BadLength),
+        (&[0x52, 0x4C, 0x52, 0x00, 0x01, 0x00], Unreadable::BadLength),
+        (&longer, Unreadable::BadLength),
+        (&[0x52, 0x4C, 0x44, 0x04, 0x06], Unreadable::CutShort),
+    ];
+    for (bytes, reason) in unreadable {
+        let broken = [&recording, bytes, &erased].concat();
+        let ended = Ended::Unreadable(reason);
+        let stopped = replayed(&before, &broken, &after);
+        assert_eq!(stopped, Replayed { read, ended });
+        let place = read;
+        assert_eq!(stopped.whole(), Err(UnreadableAt { place, reason }));
+    }
+}
+
+#[test]
+fn a_replay_ends_where_reading_the_records_ends() {
+    let (before, _, recording) = session();
+    let mut whole = 0;
+    for cut in 0..=recording.len() {
+        let mut image = before.clone();
+        let replayed = replay(&Profile::bench(), &mut image, &recording[..cut]).unwrap();
+        let mut read = records(&recording[..cut]);
+        let unreadable = read.by_ref().find_map(|record| record.err());
+        assert_eq!(replayed.whole().err(), unreadable, "cut at {}", cut);
+        assert_eq!(replayed.read, read.place(), "cut at {}", cut);
+        whole += usize::from(unreadable.is_none());
+    }
+    // in front of the first record, and behind each: four requests and their replies
+    assert_eq!(whole, 9);
 }
 
 #[test]

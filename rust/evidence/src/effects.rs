@@ -113,3 +113,42 @@ pub(crate) fn feed_refused(refusal: u32) -> &'static str {
         _ => "feed refused otherwise",
     }
 }
+
+/// The effect's name of reading a record, by the answer.
+pub(crate) fn record_read(answer: u32) -> &'static str {
+    match answer {
+        0x48 => "host record read",
+        0x44 => "device record read",
+        0x52 => "reset read",
+        1 => "record unreadable with 1",
+        2 => "record unreadable with 2",
+        3 => "record unreadable with 3",
+        4 => "record unreadable with 4",
+        6 => "recording's end read",
+        _ => "record read otherwise",
+    }
+}
+
+pub(crate) fn record_written(answer: u32) -> &'static str {
+    match answer {
+        0x48 => "host record written",
+        0x44 => "device record written",
+        0x52 => "reset written",
+        2 => "record refused with 2",
+        3 => "record refused with 3",
+        5 => "record refused with 5",
+        _ => "record written otherwise",
+    }
+}
+
+pub(crate) fn replay_ended(ended: u32) -> &'static str {
+    match ended {
+        0 => "replay refused",
+        1 => "replay ended with 1",
+        2 => "replay ended with 2",
+        3 => "replay ended with 3",
+        4 => "replay ended with 4",
+        6 => "replay ended at the end",
+        _ => "replay ended otherwise",
+    }
+}

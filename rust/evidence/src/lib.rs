@@ -1,7 +1,8 @@
 //! The proved library beside an independent model.
 //!
 //! A [`Line`] lends both the same bytes, makes the same calls on both and compares everything that comes back. [`histories`] makes
-//! random calls, [`systematic`] goes through the boundaries one by one, and [`session`] is what the benchmarks measure.
+//! random calls, [`systematic`] goes through the boundaries one by one, and [`session`] is what the benchmarks measure. [`recordings`]
+//! does the same for recorded lines: random ones, and the boundaries of their records.
 
 mod effects;
 mod guarded;
@@ -10,6 +11,7 @@ mod line;
 mod noise;
 pub mod packets;
 pub mod profiles;
+pub mod recordings;
 pub mod session;
 mod subject;
 pub mod systematic;

@@ -4,8 +4,9 @@ use crate::effects::{self, Effects};
 use crate::guarded::Guarded;
 use crate::packets::{COMMAND, DATA};
 use crate::profiles::used;
+use crate::recordings::END;
 use crate::subject::{Fed, Subject, BUFFER_BYTES, STATE_BYTES};
-use indraveck_model::{self as model, Entry, Profile, Stage, State};
+use indraveck_model::{self as model, Entry, Profile, Replayed, Stage, State};
 use std::cell::RefCell;
 use std::fmt::Debug;
 
@@ -53,7 +54,12 @@ impl<'a> Pair<'a> {
         })
     }
 
-    fn same<T: PartialEq + Debug>(&self, what: &str, tested: T, right: T) -> Result<(), String> {
+    pub(crate) fn same<T: PartialEq + Debug>(
+        &self,
+        what: &str,
+        tested: T,
+        right: T,
+    ) -> Result<(), String> {
         if tested == right {
             return Ok(());
         }
@@ -67,7 +73,7 @@ impl<'a> Pair<'a> {
         ))
     }
 
-    fn same_bytes(&self, what: &str, tested: &[u8], right: &[u8]) -> Result<(), String> {
+    pub(crate) fn same_bytes(&self, what: &str, tested: &[u8], right: &[u8]) -> Result<(), String> {
         if tested == right {
             return Ok(());
         }
@@ -360,23 +366,41 @@ impl<'a> Line<'a> {
         Ok(right)
     }
 
-    /// At the end of a history from a fresh state: the image is what the record says.
+    /// At the end of a history from a fresh state: the image is what the record says, to the model and written down as a recording.
     pub fn finish(&mut self) -> Result<(), String> {
         let mut record = match self.record.take() {
             None => return Ok(()),
             Some(record) => record,
         };
+        let recording = self.pair.tape(&record.entries)?;
+        let (replayed, image) = self
+            .pair
+            .replay(&self.profile_bytes, &record.image, &recording)?;
+        let whole = Replayed {
+            refusal: 0,
+            read: recording.len(),
+            ended: END,
+        };
+        if replayed != whole {
+            return Err(format!("the line's own recording: {:?}", replayed));
+        }
+        self.compare_replayed("the replay of its recording", image.lent())?;
         let profile = model::profile_from(&self.profile_bytes).expect("the start was accepted");
         model::replay(used(&profile), &mut record.image, &record.entries);
-        let image = self.tested.image.lent();
-        if image != &record.image[..] {
-            let name = self.pair.tested.name();
-            let names = [&name[..], "the replay"];
-            let difference = differing("the image", names, image, &record.image);
-            return Err(format!("after call {}: {}", self.calls, difference));
-        }
+        self.compare_replayed("the replay", &record.image)?;
         self.pair.happened("record replayed");
         Ok(())
+    }
+
+    /// The image of the tested side is what a replay of its line has made.
+    fn compare_replayed(&self, replay: &str, replayed: &[u8]) -> Result<(), String> {
+        let image = self.tested.image.lent();
+        if image == replayed {
+            return Ok(());
+        }
+        let name = self.pair.tested.name();
+        let difference = differing("the image", [&name, replay], image, replayed);
+        Err(format!("after call {}: {}", self.calls, difference))
     }
 
     fn keep_receive(&mut self) {

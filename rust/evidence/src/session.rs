@@ -3,8 +3,10 @@
 use crate::noise::Noise;
 use crate::packets::{command, data, range, ERASE, MOST_DATA, NEXT, READ, WAKE_UP, WRITE};
 use crate::profiles::{self, CONFIG, USER};
-use crate::subject::{Subject, BUFFER_BYTES, STATE_BYTES};
+use crate::recordings::{record, DEVICE, END, HEAD as RECORD_HEAD, HOST};
+use crate::subject::{Fed, Model, Subject, BUFFER_BYTES, STATE_BYTES};
 use indraveck_model as model;
+use std::ops::Range;
 
 const HEAD: usize = 3;
 const TAIL: usize = 2;
@@ -46,6 +48,27 @@ impl Script {
     }
 }
 
+/// A line as a recording, and its records: their directions, and where in it their bytes stand.
+struct Tape {
+    bytes: Vec<u8>,
+    records: Vec<(u8, Range<usize>)>,
+}
+
+impl Tape {
+    fn new() -> Tape {
+        Tape {
+            bytes: Vec::new(),
+            records: Vec::new(),
+        }
+    }
+
+    fn put(&mut self, direction: u8, bytes: &[u8]) {
+        self.bytes.extend(record(direction, bytes));
+        let behind = self.bytes.len();
+        self.records.push((direction, behind - bytes.len()..behind));
+    }
+}
+
 /// One profile with one large area, and the scripts for it.
 pub struct Session {
     profile: Vec<u8>,
@@ -58,6 +81,8 @@ pub struct Session {
     pub read: Script,
     /// Writes of one packet each, refused at the last byte of their target.
     pub refused: Script,
+    /// The whole session, recorded packet by packet.
+    tape: Tape,
 }
 
 /// What the device is lent, and what the host reads back.
@@ -67,6 +92,8 @@ pub struct Memory {
     receive: Vec<u8>,
     reply: Vec<u8>,
     pub back: Vec<u8>,
+    /// Where the session's recording is written down again.
+    tape: Vec<u8>,
 }
 
 impl Session {
@@ -96,7 +123,7 @@ impl Session {
         for script in [&erase, &write, &read] {
             whole.extend_from_slice(script);
         }
-        Session {
+        let mut session = Session {
             profile: model::profile_bytes(&profile).to_vec(),
             size: size as usize,
             wau,
@@ -106,7 +133,29 @@ impl Session {
             write: Script::new(write),
             read: Script::new(read),
             refused: Script::new(refused),
+            tape: Tape::new(),
+        };
+        session.tape = session.recorded();
+        session
+    }
+
+    /// What goes over the line in a whole session, as the model answers.
+    fn recorded(&self) -> Tape {
+        let mut tape = Tape::new();
+        let subject = &Model(None);
+        let mut memory = self.memory(subject);
+        for packet in &self.whole.packets {
+            tape.put(HOST, packet);
+            let mut rest = &packet[..];
+            while !rest.is_empty() {
+                let fed = self.feed(subject, &mut memory, rest);
+                if fed.count > 0 {
+                    tape.put(DEVICE, &memory.reply[..fed.count]);
+                }
+                rest = &rest[fed.consumed..];
+            }
         }
+        tape
     }
 
     pub fn size(&self) -> usize {
@@ -139,6 +188,7 @@ impl Session {
             receive: vec![0; BUFFER_BYTES],
             reply: vec![0; BUFFER_BYTES],
             back: vec![0; self.size],
+            tape: vec![0; self.tape.bytes.len()],
         };
         memory.image[..self.size].fill(0x00);
         self.restart(subject, &mut memory);
@@ -199,15 +249,7 @@ impl Session {
         let mut rest = bytes;
         let mut replied = 0;
         while !rest.is_empty() {
-            let fed = subject.feed(
-                &self.profile,
-                &mut memory.image,
-                &mut memory.state,
-                &mut memory.receive,
-                &mut memory.reply,
-                rest,
-            );
-            assert_eq!(fed.refusal, 0, "a session is not refused");
+            let fed = self.feed(subject, memory, rest);
             rest = &rest[fed.consumed..];
             replied += fed.count;
             if fed.count > STATUS_BYTES {
@@ -217,6 +259,47 @@ impl Session {
             }
         }
         replied
+    }
+
+    fn feed(&self, subject: &dyn Subject, memory: &mut Memory, input: &[u8]) -> Fed {
+        let fed = subject.feed(
+            &self.profile,
+            &mut memory.image,
+            &mut memory.state,
+            &mut memory.receive,
+            &mut memory.reply,
+            input,
+        );
+        assert_eq!(fed.refusal, 0, "a session is not refused");
+        fed
+    }
+
+    /// Reads the session's recording record by record. How many bytes its records have.
+    pub fn read_tape(&self, subject: &dyn Subject) -> usize {
+        let recording = &self.tape.bytes;
+        let (mut at, mut count) = (0, 0);
+        loop {
+            let found = subject.read_record(recording, at);
+            if found.answer <= END {
+                assert_eq!(found.answer, END, "a session's recording is whole");
+                return count;
+            }
+            count += found.to - found.from;
+            at = found.to;
+        }
+    }
+
+    /// Writes the session's recording down again, record by record. How many bytes it has.
+    pub fn write_tape(&self, subject: &dyn Subject, memory: &mut Memory) -> usize {
+        let mut at = 0;
+        for (direction, place) in &self.tape.records {
+            let direction = u32::from(*direction);
+            let bytes = &self.tape.bytes[place.clone()];
+            let (answer, to) = subject.write_record(&mut memory.tape, at, direction, bytes);
+            assert_eq!(answer, direction, "a session's record is written");
+            at = to;
+        }
+        at
     }
 
     /// What a whole session must have left, so that no subject is fast by doing less.
@@ -247,6 +330,21 @@ impl Session {
         assert_eq!(replied, wanted, "reply bytes of refused writes");
     }
 
+    pub fn check_tape_read(&self, count: usize) {
+        let places = self.tape.records.iter();
+        let wanted: usize = places.map(|(_, place)| place.len()).sum();
+        assert_eq!(count, wanted, "bytes of a session's records");
+    }
+
+    pub fn check_tape_written(&self, memory: &Memory) {
+        assert!(memory.tape == self.tape.bytes, "the session's recording");
+    }
+
+    /// Nothing of a recording is there yet.
+    pub fn clear_tape(&self, memory: &mut Memory) {
+        memory.tape.fill(0x00);
+    }
+
     /// Blank but for the last byte of each packet's target.
     pub fn spoil(&self, memory: &mut Memory) {
         let flash = &mut memory.image[..self.size];
@@ -273,6 +371,23 @@ impl Session {
 
     pub fn copy_out_plainly(&self, memory: &mut Memory) {
         memory.back.copy_from_slice(&memory.image[..self.size]);
+    }
+
+    /// The limit of reading a recording: from length to length, and nothing is judged. How many bytes its records have.
+    pub fn walk_plainly(&self) -> usize {
+        let recording = &self.tape.bytes;
+        let (mut at, mut count) = (0, 0);
+        while at < recording.len() {
+            let length = u16::from_be_bytes([recording[at + 3], recording[at + 4]]);
+            count += usize::from(length);
+            at += RECORD_HEAD + usize::from(length);
+        }
+        count
+    }
+
+    /// The limit of writing one.
+    pub fn copy_tape_plainly(&self, memory: &mut Memory) {
+        memory.tape.copy_from_slice(&self.tape.bytes);
     }
 
     /// The limit of the blank checks: each target compared with a blank one. How many are equal.

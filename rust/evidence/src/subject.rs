@@ -1,6 +1,6 @@
 //! The two devices behind one interface of bytes.
 
-use indraveck_model::{self as model, Fault};
+use indraveck_model::{self as model, Fault, Found, Replayed};
 use std::ops::Range;
 
 pub const PROFILE_BYTES: usize = 156;
@@ -45,6 +45,18 @@ pub trait Subject {
     ) -> Fed;
 
     fn payload(&self, receive: &[u8], count: usize) -> Option<Range<usize>>;
+
+    fn read_record(&self, recording: &[u8], at: usize) -> Found;
+
+    fn write_record(
+        &self,
+        buffer: &mut [u8],
+        at: usize,
+        direction: u32,
+        bytes: &[u8],
+    ) -> (u32, usize);
+
+    fn replay(&self, profile: &[u8], image: &mut [u8], recording: &[u8]) -> Replayed;
 }
 
 /// The proved library.
@@ -84,6 +96,34 @@ impl Subject for Proved {
 
     fn payload(&self, receive: &[u8], count: usize) -> Option<Range<usize>> {
         indraveck::raw::payload(receive, count)
+    }
+
+    fn read_record(&self, recording: &[u8], at: usize) -> Found {
+        let found = indraveck::raw::read_record(recording, at);
+        Found {
+            answer: found.answer,
+            from: found.from,
+            to: found.to,
+        }
+    }
+
+    fn write_record(
+        &self,
+        buffer: &mut [u8],
+        at: usize,
+        direction: u32,
+        bytes: &[u8],
+    ) -> (u32, usize) {
+        indraveck::raw::write_record(buffer, at, direction, bytes)
+    }
+
+    fn replay(&self, profile: &[u8], image: &mut [u8], recording: &[u8]) -> Replayed {
+        let replayed = indraveck::raw::replay(profile, image, recording);
+        Replayed {
+            refusal: replayed.refusal,
+            read: replayed.read,
+            ended: replayed.ended,
+        }
     }
 }
 
@@ -185,5 +225,40 @@ impl Subject for Model {
 
     fn payload(&self, receive: &[u8], count: usize) -> Option<Range<usize>> {
         model::payload(receive, count)
+    }
+
+    fn read_record(&self, recording: &[u8], at: usize) -> Found {
+        match self.0 {
+            None => model::read_record(recording, at),
+            fault => model::read_record_with(fault, recording, at),
+        }
+    }
+
+    fn write_record(
+        &self,
+        buffer: &mut [u8],
+        at: usize,
+        direction: u32,
+        bytes: &[u8],
+    ) -> (u32, usize) {
+        match self.0 {
+            None => model::write_record(buffer, at, direction, bytes),
+            fault => model::write_record_with(fault, buffer, at, direction, bytes),
+        }
+    }
+
+    fn replay(&self, profile: &[u8], image: &mut [u8], recording: &[u8]) -> Replayed {
+        let profile = match model::profile_from(profile) {
+            Some(profile) => profile,
+            // bytes of another length are no profile, and are refused as one without areas is
+            None => model::Profile {
+                noa: 0,
+                ..crate::profiles::bench()
+            },
+        };
+        match self.0 {
+            None => model::replay_recording(&profile, image, recording),
+            fault => model::replay_recording_with(fault, &profile, image, recording),
+        }
     }
 }

@@ -51,6 +51,8 @@ const EXPECTED: &[(&str, u64)] = &[
     ("read of several packets begun", 1000),
     ("read of several packets completed", 800),
     ("record replayed", 20_000),
+    ("replay changed flash", 4000),
+    ("replay ended at the end", 20_000),
     ("reset in authentication", 700),
     ("reset in command stage", 3000),
     ("reset in setting", 1000),

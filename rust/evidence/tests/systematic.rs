@@ -1,11 +1,16 @@
 //! Boundaries one by one, on the library and the model.
 
-use indraveck_evidence::{systematic, tested, Model, Pair};
+use indraveck_evidence::systematic::{self, Case};
+use indraveck_evidence::{recordings, tested, Model, Pair};
 use std::time::Instant;
 
+/// Those of the device, and those of recordings.
+fn cases() -> impl Iterator<Item = &'static Case> {
+    systematic::CASES.iter().chain(recordings::CASES)
+}
+
 fn check(name: &str) {
-    let mut cases = systematic::CASES.iter();
-    let case = cases.find(|case| case.name == name).expect("a case");
+    let case = cases().find(|case| case.name == name).expect("a case");
     let tested = tested();
     let pair = Pair::new(&*tested, &Model(None));
     let start = Instant::now();
@@ -36,7 +41,7 @@ macro_rules! cases {
         #[test]
         fn every_case_is_a_test() {
             let tests = [$(stringify!($name)),*];
-            let cases: Vec<&str> = systematic::CASES.iter().map(|case| case.name).collect();
+            let cases: Vec<&str> = cases().map(|case| case.name).collect();
             assert_eq!(&tests[..], &cases[..]);
         }
     };
@@ -59,4 +64,9 @@ cases! {
     states,
     profiles,
     boundaries,
+    record_examples,
+    replays,
+    places_of_records,
+    records_written,
+    records_read,
 }

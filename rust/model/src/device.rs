@@ -108,7 +108,7 @@ pub(crate) fn fresh<F: Faults>(f: F, p: &Profile, image: &[u8]) -> State {
     }
 }
 
-fn start_refusal<F: Faults>(f: F, p: &Profile, image: &[u8]) -> u32 {
+pub(crate) fn start_refusal<F: Faults>(f: F, p: &Profile, image: &[u8]) -> u32 {
     let wrong_image = image.len() as u64 != total(p);
     if f.has(Fault::RefusalOneBeforeFour) && wrong_image {
         1

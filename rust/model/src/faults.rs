@@ -24,96 +24,174 @@ impl Faults for Option<Fault> {
     }
 }
 
-/// Keeps the list of all faults in step with the enum.
+/// Keeps the lists of faults in step with the enum.
 macro_rules! faults {
-    ($($(#[$doc:meta])* $name:ident,)*) => {
-        /// One way in which a device can be wrong.
+    (
+        of the device { $($(#[$device_doc:meta])* $device:ident,)* }
+        of recordings { $($(#[$record_doc:meta])* $record:ident,)* }
+    ) => {
+        /// One way in which a device can be wrong, or what reads, writes and
+        /// replays its recordings.
         #[derive(Clone, Copy, Debug, PartialEq, Eq, Hash)]
         pub enum Fault {
-            $($(#[$doc])* $name,)*
+            $($(#[$device_doc])* $device,)*
+            $($(#[$record_doc])* $record,)*
         }
 
         impl Fault {
-            pub const ALL: &'static [Fault] = &[$(Fault::$name,)*];
+            pub const OF_DEVICE: &'static [Fault] = &[$(Fault::$device,)*];
+            pub const OF_RECORDINGS: &'static [Fault] = &[$(Fault::$record,)*];
+            pub const ALL: &'static [Fault] = &[$(Fault::$device,)* $(Fault::$record,)*];
         }
     };
 }
 
 faults! {
-    /// Answers every complete packet with C1h.
-    RefusesEveryRequest,
-    /// Answers every complete packet with OK, without any effect.
-    SaysOkToEverything,
-    /// Takes all input, does nothing and never replies.
-    SwallowsBytes,
-    /// Stores the first data packet of a write and only acknowledges the
-    /// others. The state has no place for this, so that it is remembered in
-    /// the top bit of ABCS while the write lasts.
-    StoresFirstPacketOnly,
-    /// Stores each data packet of a write at the same address.
-    WriteDoesNotAdvance,
-    /// Leaves the last byte of an erased range.
-    EraseOneByteShort,
-    /// Tests an erase by WAU instead of EAU.
-    EraseByWriteUnit,
-    /// Lets a range end at the window's high address.
-    WindowHighInclusive,
-    /// Takes low equal to high for a window that nothing passes.
-    EqualWindowIsClosed,
-    /// Applies the window to all kinds of areas.
-    WindowOnAllAreas,
-    /// Tests EAD instead of EAD + 1 for alignment.
-    AlignsEadItself,
-    /// Doesn't look at SUM.
-    SumNotChecked,
-    /// Looks at SUM before ETX.
-    EtxCheckedAfterSum,
-    /// Receives a command of length 257.
-    Length257Permitted,
-    /// Refuses a command of length 256.
-    Length256Refused,
-    /// Looks at the stage before the command's length.
-    StageBeforeLength,
-    /// Takes the total-erase code whatever latched bit 126 is.
-    Bit126Ignored,
-    /// Compares codes even if latched bit 127 is 0.
-    Bit127Ignored,
-    /// Leaves the config area in a total erase.
-    TotalEraseSparesConfig,
-    /// Goes to the command stage after a total erase.
-    TotalEraseWakesUp,
-    /// Latches the ID when it starts instead of with C3h.
-    IdLatchedAtStart,
-    /// Counts low pulses that are not in a row.
-    PulsesNotInARow,
-    /// Keeps the stage in a reset.
-    ResetKeepsStage,
-    /// Writes the units before the first one that isn't blank.
-    PartialWriteOnE2,
-    /// Doesn't look whether the target of a data packet is blank.
-    BlankCheckMissing,
-    /// Goes on with a write after an error.
-    ErrorKeepsWriting,
-    /// Sends 1,023 bytes in a full read packet.
-    ReadPacketOneShort,
-    /// Doesn't look at STS in the request for the next read packet.
-    ReadStatusIgnored,
-    /// Refuses a rate that is off by exactly 4 %.
-    FourPercentRefused,
-    /// Rounds the rate before it works out MDDR.
-    RateRoundedTwice,
-    /// Sets a refused rate's line setting all the same.
-    RefusedRateIsSet,
-    /// Says that one byte fewer was consumed for a reply.
-    ConsumedOneTooFew,
-    /// Says that the bytes behind a reply were consumed.
-    ConsumesUnreadBytes,
-    /// Refuses a short receive buffer before a state that doesn't fit.
-    RefusalTwoBeforeFive,
-    /// Refuses a wrong image before an unacceptable profile.
-    RefusalOneBeforeFour,
-    /// Gives a fresh state with a refused start.
-    RefusedStartIsFresh,
-    /// Clears the reply buffer behind the reply.
-    ReplyTailCleared,
+    of the device {
+        /// Answers every complete packet with C1h.
+        RefusesEveryRequest,
+        /// Answers every complete packet with OK, without any effect.
+        SaysOkToEverything,
+        /// Takes all input, does nothing and never replies.
+        SwallowsBytes,
+        /// Stores the first data packet of a write and only acknowledges the
+        /// others. The state has no place for this, so that it is remembered in
+        /// the top bit of ABCS while the write lasts.
+        StoresFirstPacketOnly,
+        /// Stores each data packet of a write at the same address.
+        WriteDoesNotAdvance,
+        /// Leaves the last byte of an erased range.
+        EraseOneByteShort,
+        /// Tests an erase by WAU instead of EAU.
+        EraseByWriteUnit,
+        /// Lets a range end at the window's high address.
+        WindowHighInclusive,
+        /// Takes low equal to high for a window that nothing passes.
+        EqualWindowIsClosed,
+        /// Applies the window to all kinds of areas.
+        WindowOnAllAreas,
+        /// Tests EAD instead of EAD + 1 for alignment.
+        AlignsEadItself,
+        /// Doesn't look at SUM.
+        SumNotChecked,
+        /// Looks at SUM before ETX.
+        EtxCheckedAfterSum,
+        /// Receives a command of length 257.
+        Length257Permitted,
+        /// Refuses a command of length 256.
+        Length256Refused,
+        /// Looks at the stage before the command's length.
+        StageBeforeLength,
+        /// Takes the total-erase code whatever latched bit 126 is.
+        Bit126Ignored,
+        /// Compares codes even if latched bit 127 is 0.
+        Bit127Ignored,
+        /// Leaves the config area in a total erase.
+        TotalEraseSparesConfig,
+        /// Goes to the command stage after a total erase.
+        TotalEraseWakesUp,
+        /// Latches the ID when it starts instead of with C3h.
+        IdLatchedAtStart,
+        /// Counts low pulses that are not in a row.
+        PulsesNotInARow,
+        /// Keeps the stage in a reset.
+        ResetKeepsStage,
+        /// Writes the units before the first one that isn't blank.
+        PartialWriteOnE2,
+        /// Doesn't look whether the target of a data packet is blank.
+        BlankCheckMissing,
+        /// Goes on with a write after an error.
+        ErrorKeepsWriting,
+        /// Sends 1,023 bytes in a full read packet.
+        ReadPacketOneShort,
+        /// Doesn't look at STS in the request for the next read packet.
+        ReadStatusIgnored,
+        /// Refuses a rate that is off by exactly 4 %.
+        FourPercentRefused,
+        /// Rounds the rate before it works out MDDR.
+        RateRoundedTwice,
+        /// Sets a refused rate's line setting all the same.
+        RefusedRateIsSet,
+        /// Says that one byte fewer was consumed for a reply.
+        ConsumedOneTooFew,
+        /// Says that the bytes behind a reply were consumed.
+        ConsumesUnreadBytes,
+        /// Refuses a short receive buffer before a state that doesn't fit.
+        RefusalTwoBeforeFive,
+        /// Refuses a wrong image before an unacceptable profile.
+        RefusalOneBeforeFour,
+        /// Gives a fresh state with a refused start.
+        RefusedStartIsFresh,
+        /// Clears the reply buffer behind the reply.
+        ReplyTailCleared,
+    }
+    of recordings {
+        /// Looks at a record's length before its direction.
+        LengthBeforeDirection,
+        /// Reads a record of 1,031 bytes.
+        Length1031Read,
+        /// Doesn't read a record of 1,030 bytes.
+        Length1030Unreadable,
+        /// Reads a host record without contents.
+        EmptyHostRecordRead,
+        /// Reads a device record without contents.
+        EmptyDeviceRecordRead,
+        /// Reads a reset with contents.
+        ResetWithContentsRead,
+        /// Takes a record's length low byte first.
+        LengthLowByteFirst,
+        /// Says that less than a head is cut short, whatever the mark is.
+        HeadBeforeMark,
+        /// Looks at the first byte of the mark alone.
+        HalfOfTheMarkRead,
+        /// Says that a mark is bad when its second byte isn't there yet.
+        HalfOfTheMarkJudged,
+        /// Says that a length is bad when its second byte isn't there yet and
+        /// none could make it good.
+        HalfLengthJudged,
+        /// Says that a record is cut short, whatever its length is.
+        ContentsBeforeLength,
+        /// Takes what there is of a record's contents.
+        CutContentsRead,
+        /// Takes a place behind the end for the end.
+        BehindTheEndIsEnd,
+        /// Takes less than a head for the end.
+        PartOfAHeadIsEnd,
+        /// Passes over records of another direction.
+        UnknownDirectionSkipped,
+        /// Goes on by a byte where there is no record.
+        UnreadableRecordPassed,
+        /// Looks at the length of what is to be written before its direction.
+        LengthBeforeDirectionWritten,
+        /// Looks for room before it looks at the length.
+        RoomBeforeLength,
+        /// Takes the low byte of a direction above 255.
+        DirectionAbove255Written,
+        /// Writes a record of 1,031 bytes.
+        Length1031Written,
+        /// Writes a record without contents.
+        EmptyRecordWritten,
+        /// Writes a reset with contents.
+        ResetWithContentsWritten,
+        /// Writes a record's length low byte first.
+        LengthLowByteFirstWritten,
+        /// Leaves a head in the buffer if the contents don't fit.
+        HeadWithoutRoomWritten,
+        /// Refuses a record that fills the buffer up.
+        ExactFitRefused,
+        /// Adds up places modulo their range.
+        FarPlaceWraps,
+        /// Clears the buffer behind a record.
+        BytesBehindCleared,
+        /// Says that a record which isn't written has a head.
+        UnwrittenRecordPassed,
+        /// Says that every recording was replayed to its end.
+        ReplayAlwaysEnds,
+        /// Says that a refused replay has come to the end.
+        RefusedReplayEnds,
+        /// Takes a reply behind a reset for one to the request before it.
+        ReplyBehindResetCounts,
+        /// Goes on with a replay behind a record that is no good.
+        ReplayPassesUnreadable,
+    }
 }

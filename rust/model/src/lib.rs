@@ -15,6 +15,7 @@ mod faults;
 mod layout;
 mod packet;
 mod profile;
+mod recording;
 mod replay;
 
 pub use device::{feed, feed_with, fits, reset, reset_with, start, start_with};
@@ -22,7 +23,8 @@ pub use faults::Fault;
 pub use layout::{profile_bytes, profile_from, state_bytes, state_from};
 pub use packet::payload;
 pub use profile::{acceptable, total};
-pub use replay::{replay, Entry};
+pub use recording::{read_record, read_record_with, write_record, write_record_with, Found};
+pub use replay::{replay, replay_recording, replay_recording_with, Entry, Replayed};
 
 /// One stretch of flash with its units. `ead` is inclusive; a unit of 0 means
 /// that the area can't be erased (`eau`) or written (`wau`).

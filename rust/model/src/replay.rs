@@ -1,8 +1,11 @@
 //! The line's record, and what the flash must be after it.
 
 use crate::answer::TOTAL_ERASE;
+use crate::device::start_refusal;
+use crate::faults::{Fault, Faults, Right};
 use crate::packet::{payload, status, COMMAND, DATA};
-use crate::Area;
+use crate::recording::{reading, DEVICE, END, HOST};
+use crate::{Area, Profile};
 
 /// One entry of the line's record, in order of time. An early refusal is an
 /// exchange whose request is the three bytes up to the refused length.
@@ -46,6 +49,94 @@ pub fn replay(p_areas: &[Area], image: &mut [u8], entries: &[Entry]) {
             }
             _ => {}
         }
+    }
+}
+
+/// What the replay of a recording answers: a refusal number (0 if accepted),
+/// how many bytes of the recording were read, and why no more (6 for the end,
+/// 1 to 4 for a record that can't be read, 0 for a refusal).
+#[derive(Clone, Copy, Debug, PartialEq, Eq)]
+pub struct Replayed {
+    pub refusal: u32,
+    pub read: usize,
+    pub ended: u32,
+}
+
+/// Changes the image as a recording says, up to the first record that can't
+/// be read.
+pub fn replay_recording(p: &Profile, image: &mut [u8], recording: &[u8]) -> Replayed {
+    replaying(Right, p, image, recording)
+}
+
+/// [`replay_recording`] with a fault.
+pub fn replay_recording_with(
+    f: Option<Fault>,
+    p: &Profile,
+    image: &mut [u8],
+    recording: &[u8],
+) -> Replayed {
+    replaying(f, p, image, recording)
+}
+
+fn replaying<F: Faults>(f: F, p: &Profile, image: &mut [u8], recording: &[u8]) -> Replayed {
+    let refusal = start_refusal(f, p, image);
+    if refusal != 0 {
+        return Replayed {
+            refusal,
+            read: 0,
+            ended: if f.has(Fault::RefusedReplayEnds) {
+                END
+            } else {
+                0
+            },
+        };
+    }
+    let (entries, read, ended) = entries_of(f, recording);
+    replay(p.used(), image, &entries);
+    Replayed {
+        refusal,
+        read,
+        ended: if f.has(Fault::ReplayAlwaysEnds) {
+            END
+        } else {
+            ended
+        },
+    }
+}
+
+/// Each host record with the device record right behind it is an exchange;
+/// a record without its partner is nothing. Also how much was read, and why
+/// no more.
+fn entries_of<F: Faults>(f: F, recording: &[u8]) -> (Vec<Entry>, usize, u32) {
+    let mut entries = vec![];
+    let mut request: Option<&[u8]> = None;
+    let mut at = 0;
+    loop {
+        let found = reading(f, recording, at);
+        let direction = match u8::try_from(found.answer) {
+            Ok(direction) if found.answer > END => direction,
+            _ if f.has(Fault::ReplayPassesUnreadable) && at < recording.len() => {
+                at += 1;
+                continue;
+            }
+            _ => return (entries, at, found.answer),
+        };
+        let contents = &recording[found.from..found.to];
+        match (direction, request.take()) {
+            (HOST, _) => request = Some(contents),
+            (DEVICE, Some(asked)) => entries.push(Entry::Exchange {
+                request: asked.to_vec(),
+                reply: contents.to_vec(),
+            }),
+            (DEVICE, None) => {}
+            (_, asked) => {
+                entries.push(Entry::Reset);
+                if f.has(Fault::ReplyBehindResetCounts) {
+                    request = asked;
+                }
+            }
+        }
+        at = found.to;
     }
 }
 

@@ -6,6 +6,7 @@ use common::{
     command, data, packet, pattern, range, words, Client, Folder, Serving, AWAKE, ERASED,
     SHOW_FLASH, WRITTEN,
 };
+use indraveck::recording::{append, Direction};
 use indraveck::Profile;
 use indraveck_model::{Area, Entry};
 use nix::sys::signal::Signal;
@@ -106,8 +107,8 @@ struct Record {
 impl Record {
     fn ask(&mut self, client: &mut Client, request: &[u8]) -> Vec<u8> {
         let reply = client.ask(request);
-        self.keep(0x48, request);
-        self.keep(0x44, &reply);
+        self.keep(Direction::Host, request);
+        self.keep(Direction::Device, &reply);
         self.entries.push(Entry::Exchange {
             request: request.to_vec(),
             reply: reply.clone(),
@@ -116,22 +117,19 @@ impl Record {
     }
 
     fn reset(&mut self) {
-        self.keep(0x52, &[]);
+        self.keep(Direction::Reset, &[]);
         self.entries.push(Entry::Reset);
     }
 
-    fn keep(&mut self, direction: u8, bytes: &[u8]) {
-        let length = bytes.len() as u16;
-        self.recording.extend([0x52, 0x4C, direction]);
-        self.recording.extend(length.to_be_bytes());
-        self.recording.extend(bytes);
+    fn keep(&mut self, direction: Direction, bytes: &[u8]) {
+        append(&mut self.recording, direction.byte(), bytes).expect("a packet or a reset");
     }
 
     /// The image that the proved replay makes of it; the model's has to be the same.
     fn replayed(&self, before: &[u8]) -> Vec<u8> {
         let mut image = before.to_vec();
-        let read = indraveck::replay(&Profile::bench(), &mut image, &self.recording);
-        assert_eq!(read, Ok(self.recording.len()));
+        let replayed = indraveck::replay(&Profile::bench(), &mut image, &self.recording);
+        assert_eq!(replayed.map(|replayed| replayed.whole()), Ok(Ok(())));
         let mut by_model = before.to_vec();
         indraveck_model::replay(&bench_areas(), &mut by_model, &self.entries);
         assert!(image == by_model);

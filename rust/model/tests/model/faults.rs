@@ -1,7 +1,9 @@
-//! Each fault shows on some line, and without one nothing changes.
+//! Each fault shows on some line or some record, and without one nothing
+//! changes.
 
 use crate::bench::*;
 use crate::record::{small_profile, some_line};
+use crate::recording::{erased, record};
 use indraveck_model::*;
 
 /// All that the calls of one line give back, byte for byte.
@@ -43,8 +45,90 @@ fn line(parts: &[&[u8]]) -> Vec<Option<Vec<u8>>> {
     parts.iter().map(|part| Some(part.to_vec())).collect()
 }
 
-/// A line that the fault must show on.
-fn telling(fault: Fault) -> (Bench, Vec<Option<Vec<u8>>>) {
+/// What a fault must show on.
+enum Telling {
+    Line(Bench, Vec<Option<Vec<u8>>>),
+    /// Bytes to read at a place.
+    Read(Vec<u8>, usize),
+    /// A buffer's length, a place, a direction and how many bytes.
+    Write(usize, usize, u32, usize),
+    /// A recording, and how much of the image is missing.
+    Replay(Vec<u8>, usize),
+}
+
+impl Telling {
+    /// All that comes of it, as bytes.
+    fn told(self, fault: Option<Fault>) -> Vec<u8> {
+        match self {
+            Telling::Line(bench, parts) => trace(fault, bench, &parts),
+            Telling::Read(bytes, at) => {
+                format!("{:?}", read_record_with(fault, &bytes, at)).into_bytes()
+            }
+            Telling::Write(room, at, direction, count) => {
+                let mut buffer = vec![UNTOUCHED; room];
+                let bytes = vec![0x33; count];
+                let answer = write_record_with(fault, &mut buffer, at, direction, &bytes);
+                [format!("{:?}", answer).into_bytes(), buffer].concat()
+            }
+            Telling::Replay(recording, missing) => {
+                let p = bench_profile();
+                let mut image = vec![0x5A; total(&p) as usize - missing];
+                let replayed = replay_recording_with(fault, &p, &mut image, &recording);
+                [format!("{:?}", replayed).into_bytes(), image].concat()
+            }
+        }
+    }
+}
+
+fn telling(fault: Fault) -> Telling {
+    match fault {
+        Fault::LengthBeforeDirection => Telling::Read(hex("52 4C 49 FF FF"), 0),
+        Fault::Length1031Read => Telling::Read(record(0x44, &[0; 1031]), 0),
+        Fault::Length1030Unreadable => Telling::Read(record(0x44, &[0; 1030]), 0),
+        Fault::EmptyHostRecordRead => Telling::Read(hex("52 4C 48 00 00"), 0),
+        Fault::EmptyDeviceRecordRead => Telling::Read(hex("52 4C 44 00 00"), 0),
+        Fault::ResetWithContentsRead => Telling::Read(hex("52 4C 52 00 01 00"), 0),
+        Fault::LengthLowByteFirst => Telling::Read(hex("52 4C 48 00 01 00"), 0),
+        Fault::HeadBeforeMark => Telling::Read(hex("52 00"), 0),
+        Fault::HalfOfTheMarkRead => Telling::Read(hex("52 00 48 00 01 00"), 0),
+        Fault::HalfOfTheMarkJudged => Telling::Read(hex("4C"), 0),
+        Fault::HalfLengthJudged => Telling::Read(hex("52 4C 48 FF"), 0),
+        Fault::ContentsBeforeLength => Telling::Read(hex("52 4C 48 FF FF"), 0),
+        Fault::CutContentsRead => Telling::Read(hex("52 4C 48 00 02 01"), 0),
+        Fault::BehindTheEndIsEnd => Telling::Read(vec![], 1),
+        Fault::PartOfAHeadIsEnd => Telling::Read(hex("52 4C 48 00"), 0),
+        Fault::UnknownDirectionSkipped => Telling::Read(hex("52 4C 00 00 01 00"), 0),
+        Fault::UnreadableRecordPassed => Telling::Read(hex("00 00"), 0),
+        Fault::LengthBeforeDirectionWritten => Telling::Write(9, 0, 0x49, 0),
+        Fault::RoomBeforeLength => Telling::Write(0, 0, 0x48, 0),
+        Fault::DirectionAbove255Written => Telling::Write(9, 0, 0x148, 1),
+        Fault::Length1031Written => Telling::Write(2000, 0, 0x44, 1031),
+        Fault::EmptyRecordWritten => Telling::Write(9, 0, 0x48, 0),
+        Fault::ResetWithContentsWritten => Telling::Write(9, 0, 0x52, 1),
+        Fault::LengthLowByteFirstWritten => Telling::Write(9, 0, 0x48, 1),
+        Fault::HeadWithoutRoomWritten => Telling::Write(9, 1, 0x48, 4),
+        Fault::ExactFitRefused => Telling::Write(9, 1, 0x48, 3),
+        Fault::FarPlaceWraps => Telling::Write(9, usize::MAX, 0x48, 1),
+        Fault::BytesBehindCleared => Telling::Write(9, 0, 0x48, 1),
+        Fault::UnwrittenRecordPassed => Telling::Write(0, 0, 0x52, 0),
+        Fault::ReplayAlwaysEnds => Telling::Replay(hex("52"), 0),
+        Fault::RefusedReplayEnds => Telling::Replay(vec![], 1),
+        Fault::ReplyBehindResetCounts => {
+            let [request, reply] = erased();
+            Telling::Replay([request, hex("52 4C 52 00 00"), reply].concat(), 0)
+        }
+        Fault::ReplayPassesUnreadable => {
+            Telling::Replay([vec![0x00], erased().concat()].concat(), 0)
+        }
+        fault => {
+            let (bench, parts) = line_telling(fault);
+            Telling::Line(bench, parts)
+        }
+    }
+}
+
+/// A line that a fault of the device must show on.
+fn line_telling(fault: Fault) -> (Bench, Vec<Option<Vec<u8>>>) {
     let locked = |first: u8| Bench::locked(&[first; 16]);
     let window = |low, high| {
         let mut bench = Bench::ready();
@@ -137,18 +221,39 @@ fn telling(fault: Fault) -> (Bench, Vec<Option<Vec<u8>>>) {
             bench.p.rmb = 0;
             (bench, line(&[&inquiry]))
         }
+        _ => panic!("nothing is said to show {fault:?}"),
     }
 }
 
 #[test]
 fn every_fault_shows() {
-    assert!(Fault::ALL.len() >= 14);
+    assert!(Fault::ALL.len() >= 70);
     for &fault in Fault::ALL {
-        let run = |f| {
-            let (bench, parts) = telling(fault);
-            trace(f, bench, &parts)
-        };
+        let run = |f| telling(fault).told(f);
         assert!(run(None) != run(Some(fault)), "{fault:?}");
+    }
+}
+
+/// The same for records: on a plain one that is read, written and replayed
+/// only those show that every record shows.
+#[test]
+fn most_faults_leave_a_plain_record_alone() {
+    let always = [
+        Fault::LengthLowByteFirst,
+        Fault::LengthLowByteFirstWritten,
+        Fault::BytesBehindCleared,
+    ];
+    let run = |fault| {
+        let plain = [
+            Telling::Read(hex("52 4C 48 00 03 01 02 03"), 0),
+            Telling::Write(20, 1, 0x44, 7),
+            Telling::Replay(erased().concat(), 0),
+        ];
+        plain.map(|telling| telling.told(fault))
+    };
+    for &fault in Fault::ALL {
+        let same = run(None) == run(Some(fault));
+        assert_eq!(same, !always.contains(&fault), "{fault:?}");
     }
 }
 

@@ -7,4 +7,5 @@ mod faults;
 mod profiles;
 mod rates;
 mod record;
+mod recording;
 mod vectors;
