@@ -74,9 +74,9 @@ pub record Outside : Type 0 where
       → (fault : Fault) → (r ≡ faultNumber fault) ↔ (foundAt recording at ≡ Refused fault)
   pub read-stays : (recording : List ℕ) (at r from to : ℕ) → ReadsBytes recording at r from to
       → ((d : Direction) → r ≡ directionNumber d → ⊥) → (from ≡ at) × (to ≡ at)
-  -- writing a record: its direction, with the place behind it, or a fault's number, and then the place stays
+  -- writing a record: 7 with the place behind it, or a fault's number, and then the place stays
   pub write-record : (direction at : ℕ) (bytes before after : List ℕ) (r to : ℕ) → WritesBytes direction at bytes before after r to
-      → (d : Direction) → (r ≡ directionNumber d) ↔ ((direction ≡ directionNumber d) × Wrote direction at bytes before after (Behind to))
+      → (r ≡ 7) ↔ Wrote direction at bytes before after (Behind to)
   pub write-fault : (direction at : ℕ) (bytes before after : List ℕ) (r to : ℕ) → WritesBytes direction at bytes before after r to
       → (fault : Fault) → (r ≡ faultNumber fault) ↔ Wrote direction at bytes before after (NotWritten fault)
   pub write-stays : (direction at : ℕ) (bytes before after : List ℕ) (r to : ℕ) → WritesBytes direction at bytes before after r to

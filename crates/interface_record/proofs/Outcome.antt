@@ -19,10 +19,10 @@ use Rattle.interface_record.specs.Post.{writtenNumber, placeBy, ReadsByt
 
 -- from what the writer answered
 pub written-bytes : (direction at : ℕ) (bytes before after : List ℕ) (w : Written) → Wrote direction at bytes before after w
-    → (r to : ℕ) → r ≡ writtenNumber direction w → to ≡ placeBy at w → WritesBytes direction at bytes before after r to
+    → (r to : ℕ) → r ≡ writtenNumber w → to ≡ placeBy at w → WritesBytes direction at bytes before after r to
 written-bytes direction at bytes before after w wrote r to a b =
     record {
-      number = a ∙ ap (writtenNumber direction) (wrote .answers);
+      number = a ∙ ap writtenNumber (wrote .answers);
       behind = b ∙ ap (placeBy at) (wrote .answers);
       leaves = wrote .leaves;
     }

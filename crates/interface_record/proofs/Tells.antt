@@ -16,8 +16,7 @@ use Rattle.recording.proofs.Exactly.{end-exactly}
 use Rattle.recording.proofs.Numbers.{fault-once, fault-positive, fault-below, direction-above, found-positive}
 use Rattle.record_writer.specs.declared.Written.{Written}
 use Rattle.record_writer.specs.declared.Written.the-variants.{Behind, Refused as NotWritten}
-use Rattle.record_writer.specs.Writing.{Wrote, ReadsAt, writtenOf}
-use Rattle.record_writer.proofs.ReadBack.{written-reads}
+use Rattle.record_writer.specs.Writing.{Wrote, writtenOf}
 use Rattle.interface_record.specs.Post.{partBy, ReadsBytes, writtenNumber, placeBy, WritesBytes}
 
 -- what was found, by its number
@@ -70,28 +69,20 @@ module _ (direction at : ℕ) (bytes before after : List ℕ) (r to : ℕ) (told
   wrote : (w : Written) → writtenOf direction at bytes before ≡ w → Wrote direction at bytes before after w
   wrote w e = record { answers = sym e; leaves = told .leaves }
 
-  -- the direction of what was written is one
-  above : (n : ℕ) → writtenOf direction at bytes before ≡ Behind n → endNumber < direction
-  above n e =
-      let a : ReadsAt after at direction bytes n = written-reads direction at bytes before after (Behind n) (wrote (Behind n) e) n refl in
-      subst (λ (k : ℕ). endNumber < k) (sym (a .number)) (direction-above (a .which))
-
-  pub written-told : (d : Direction) → (r ≡ directionNumber d) ↔ ((direction ≡ directionNumber d) × Wrote direction at bytes before after (Behind to))
-  written-told d = (λ e. by (writtenOf direction at bytes before) refl e, λ h. told .number ∙ ap (writtenNumber direction) (sym (h .1 .answers)) ∙ h .0)
+  pub written-told : (r ≡ 7) ↔ Wrote direction at bytes before after (Behind to)
+  written-told = (λ e. by (writtenOf direction at bytes before) refl e, λ h. told .number ∙ ap writtenNumber (sym (h .answers)))
     where
-      by : (w : Written) → writtenOf direction at bytes before ≡ w → r ≡ directionNumber d → (direction ≡ directionNumber d) × Wrote direction at bytes before after (Behind to)
-      by (Behind n) e k =
-          let place : n ≡ to = sym (told .behind ∙ ap (placeBy at) e) in
-          (sym (told .number ∙ ap (writtenNumber direction) e) ∙ k, wrote (Behind to) (e ∙ ap Behind place))
-      by (NotWritten f) e k = let n : r ≡ faultNumber f = told .number ∙ ap (writtenNumber direction) e in absurd (omega (arith, direction-above d, fault-below f))
+      by : (w : Written) → writtenOf direction at bytes before ≡ w → r ≡ 7 → Wrote direction at bytes before after (Behind to)
+      by (Behind n) e k = wrote (Behind to) (e ∙ ap Behind (sym (told .behind ∙ ap (placeBy at) e)))
+      by (NotWritten f) e k = let n : r ≡ faultNumber f = told .number ∙ ap writtenNumber e in absurd (omega (arith, fault-below f))
 
   pub unwritten-told : (f : Fault) → (r ≡ faultNumber f) ↔ Wrote direction at bytes before after (NotWritten f)
-  unwritten-told f = (λ e. by (writtenOf direction at bytes before) refl e, λ h. told .number ∙ ap (writtenNumber direction) (sym (h .answers)))
+  unwritten-told f = (λ e. by (writtenOf direction at bytes before) refl e, λ h. told .number ∙ ap writtenNumber (sym (h .answers)))
     where
       by : (w : Written) → writtenOf direction at bytes before ≡ w → r ≡ faultNumber f → Wrote direction at bytes before after (NotWritten f)
-      by (Behind n) e k = let m : r ≡ direction = told .number ∙ ap (writtenNumber direction) e in absurd (omega (arith, above n e, fault-below f))
+      by (Behind n) e k = let m : r ≡ 7 = told .number ∙ ap writtenNumber e in absurd (omega (arith, fault-below f))
       by (NotWritten g) e k =
-          let n : r ≡ faultNumber g = told .number ∙ ap (writtenNumber direction) e in
+          let n : r ≡ faultNumber g = told .number ∙ ap writtenNumber e in
           wrote (NotWritten f) (e ∙ ap NotWritten (fault-once g f (sym n ∙ k)))
 
   -- where it was not written the place stays
@@ -102,5 +93,5 @@ module _ (direction at : ℕ) (bytes before after : List ℕ) (r to : ℕ) (told
   writing-answered = by (writtenOf direction at bytes before) refl
     where
       by : (w : Written) → writtenOf direction at bytes before ≡ w → 0 < r
-      by (Behind n) e = let m : r ≡ direction = told .number ∙ ap (writtenNumber direction) e in omega (arith, above n e)
-      by (NotWritten f) e = let m : r ≡ faultNumber f = told .number ∙ ap (writtenNumber direction) e in omega (arith, fault-positive f)
+      by (Behind n) e = let m : r ≡ 7 = told .number ∙ ap writtenNumber e in omega arith
+      by (NotWritten f) e = let m : r ≡ faultNumber f = told .number ∙ ap writtenNumber e in omega (arith, fault-positive f)

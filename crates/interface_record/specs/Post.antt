@@ -22,10 +22,10 @@ pub record ReadsBytes (recording : List ℕ) (at r from to : ℕ) : Type 0 where
   pub first : from ≡ partBy at (foundAt recording at) .from
   pub behind : to ≡ partBy at (foundAt recording at) .to
 
--- the direction of a record that was written, or why it was not
-abbrev pub writtenNumber : ℕ → Written → ℕ
-writtenNumber direction (Behind to) = direction
-writtenNumber direction (NotWritten fault) = faultNumber fault
+-- that the record was written, or why not
+abbrev pub writtenNumber : Written → ℕ
+writtenNumber (Behind to) = 7
+writtenNumber (NotWritten fault) = faultNumber fault
 
 -- the place behind the record; where it was not written, its own
 abbrev pub placeBy : ℕ → Written → ℕ
@@ -33,6 +33,6 @@ placeBy at (Behind to) = to
 placeBy at (NotWritten fault) = at
 
 pub record WritesBytes (direction at : ℕ) (bytes before after : List ℕ) (r to : ℕ) : Type 0 where
-  pub number : r ≡ writtenNumber direction (writtenOf direction at bytes before)
+  pub number : r ≡ writtenNumber (writtenOf direction at bytes before)
   pub behind : to ≡ placeBy at (writtenOf direction at bytes before)
   pub leaves : after ≡ leftOf direction at bytes before

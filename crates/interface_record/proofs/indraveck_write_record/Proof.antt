@@ -16,7 +16,7 @@ returns-2 c =
     let a = c .before .before .before .before .before .before .before .before .before .before .args in
     let write-record = c .before .before .before .before .before .write-record in
     let written = c .before .written in
-    written-bytes (a .direction) (a .at) (a .bytes .now) (a .buffer .now) (write-record .last .0) _ (write-record .ensures) _ _ (ap (writtenNumber (a .direction)) (sym (written .given .1)))
+    written-bytes (a .direction) (a .at) (a .bytes .now) (a .buffer .now) (write-record .last .0) _ (write-record .ensures) _ _ (ap writtenNumber (sym (written .given .1)))
     (ap (placeBy (a .at)) (sym (written .given .1)))
 
 returns-3 : tie.Need-returns-3
@@ -24,7 +24,7 @@ returns-3 c =
     let a = c .before .before .before .before .before .before .before .before .before .before .before .args in
     let write-record = c .before .before .before .before .before .before .write-record in
     let written2 = c .before .before .written2 in
-    written-bytes (a .direction) (a .at) (a .bytes .now) (a .buffer .now) (write-record .last .0) _ (write-record .ensures) _ _ (c .fault-number2 .ensures ∙ ap (writtenNumber (a .direction)) (sym (written2 .given .1)))
+    written-bytes (a .direction) (a .at) (a .bytes .now) (a .buffer .now) (write-record .last .0) _ (write-record .ensures) _ _ (c .fault-number2 .ensures ∙ ap writtenNumber (sym (written2 .given .1)))
     (ap (placeBy (a .at)) (sym (written2 .given .1)))
 
 pub indraveck-write-record-spec : {M : Type 1} → statement M
