@@ -248,8 +248,8 @@ pub struct Replayed {
 /// Replays a recorded line on the image. A refused replay leaves it.
 #[inline]
 pub fn replay(profile: &[u8], image: &mut [u8], recording: &[u8]) -> Replayed {
-    let mut read = 0;
-    // no answer, so that one which was not written is not taken for one
+    // neither is an answer, so that one which was not written is not taken for one
+    let mut read = u64::MAX;
     let mut ended = u32::MAX;
     let refusal = unsafe {
         indraveck_replay(
