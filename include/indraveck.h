@@ -131,7 +131,7 @@ extern "C" {
 #define INDRAVECK_RECORD_DEVICE 0x44 /* what the device sent */
 #define INDRAVECK_RECORD_RESET 0x52  /* the device was reset */
 
-/* What read_record and write_record answer where they do not answer a direction, and what replay leaves in `ended`. Neither function
+/* What write_record answers, and read_record where it does not answer a direction, and what replay leaves in `ended`. Neither function
  * ever answers 0, so that a number which nobody wrote is not taken for an answer. */
 #define INDRAVECK_RECORD_NOT_READ 0      /* nothing was read; only in `ended`, where the replay was refused */
 #define INDRAVECK_RECORD_BAD_MARK 1      /* the record does not begin with 52h 4Ch */
@@ -140,6 +140,7 @@ extern "C" {
 #define INDRAVECK_RECORD_CUT_SHORT 4     /* the recording ends before the record does, or before the place */
 #define INDRAVECK_RECORD_NO_ROOM 5       /* the buffer ends before the record would; only from write_record */
 #define INDRAVECK_RECORD_END 6           /* all was read; only from read_record, and in `ended` */
+#define INDRAVECK_RECORD_WRITTEN 7       /* the record was written; only from write_record */
 
 /* Writes a fresh state; a refused start (4 or 1) writes 33 zeros. State bytes of another length are refused with 5 and left. */
 uint32_t indraveck_start(const uint8_t *profile, size_t profile_len,
@@ -202,13 +203,11 @@ uint32_t indraveck_payload(const uint8_t *receive, size_t receive_len, size_t co
 uint32_t indraveck_read_record(const uint8_t *recording, size_t recording_len, size_t at,
                                uint64_t *from, uint64_t *to);
 
-/* Writes one record into the buffer, beginning at the place `at`. Answers its direction; or why it was not written, the first of these
- * that applies:
+/* Writes one record into the buffer, beginning at the place `at`. Answers INDRAVECK_RECORD_WRITTEN; or why it was not written, the first
+ * of these that applies:
  *  - INDRAVECK_RECORD_BAD_DIRECTION: `direction`, which may be any number, also above 255, is none of the three;
  *  - INDRAVECK_RECORD_BAD_LENGTH: `bytes_len`, which becomes the record's length, is not 1 to 1,030, for a reset not 0;
  *  - INDRAVECK_RECORD_NO_ROOM: the record does not fit whole: `at` + 5 + `bytes_len`, however large, is above `buffer_len`.
- * The answer says that the record was written if it is one of the three directions, not if it is the argument: a direction of 2 is
- * answered by 2, and is bad.
  *
  * `to` is always written: the place behind the record, where the next one goes, or `at` if it was not written. Then nothing is
  * written into the buffer either; otherwise every byte before `at` and from `to` on is as it was.

@@ -137,13 +137,14 @@ static void names(void)
         case INDRAVECK_RECORD_CUT_SHORT:
         case INDRAVECK_RECORD_NO_ROOM:
         case INDRAVECK_RECORD_END:
+        case INDRAVECK_RECORD_WRITTEN:
         case INDRAVECK_RECORD_HOST:
         case INDRAVECK_RECORD_DEVICE:
         case INDRAVECK_RECORD_RESET:
             known++;
         }
     }
-    check(known == 10, "no two answers about records share a number");
+    check(known == 11, "no two answers about records share a number");
     check(INDRAVECK_PROFILE_AT_AREAS + INDRAVECK_PROFILE_AREAS * INDRAVECK_AREA_BYTES == INDRAVECK_PROFILE_BYTES, "the areas fill the profile");
     check(INDRAVECK_STATE_AT_HELD + 4 == INDRAVECK_STATE_BYTES, "the held count ends the state");
 }
@@ -271,7 +272,7 @@ static void empty_slices(const uint8_t *profile, uint8_t *image, uint8_t *nowher
           "a place behind nothing");
     check(indraveck_write_record(nowhere, 0, 0, INDRAVECK_RECORD_RESET, nowhere, 0, &length) == INDRAVECK_RECORD_NO_ROOM && length == 0,
           "a record without a buffer");
-    check(indraveck_write_record(buffer, sizeof buffer, 0, INDRAVECK_RECORD_RESET, nowhere, 0, &length) == INDRAVECK_RECORD_RESET
+    check(indraveck_write_record(buffer, sizeof buffer, 0, INDRAVECK_RECORD_RESET, nowhere, 0, &length) == INDRAVECK_RECORD_WRITTEN
               && length == 5,
           "a reset without bytes");
     check(indraveck_write_record(nowhere, 0, 0, INDRAVECK_RECORD_HOST, nowhere, 0, &length) == INDRAVECK_RECORD_BAD_LENGTH && length == 0,
@@ -434,13 +435,13 @@ static void records_written(void)
         uint32_t answer;
         uint64_t to;
     } rows[] = {
-        {1100, 0, INDRAVECK_RECORD_HOST, 1, INDRAVECK_RECORD_HOST, 6},
-        {1100, 3, INDRAVECK_RECORD_DEVICE, 7, INDRAVECK_RECORD_DEVICE, 15},
-        {1100, 9, INDRAVECK_RECORD_RESET, 0, INDRAVECK_RECORD_RESET, 14},
+        {1100, 0, INDRAVECK_RECORD_HOST, 1, INDRAVECK_RECORD_WRITTEN, 6},
+        {1100, 3, INDRAVECK_RECORD_DEVICE, 7, INDRAVECK_RECORD_WRITTEN, 15},
+        {1100, 9, INDRAVECK_RECORD_RESET, 0, INDRAVECK_RECORD_WRITTEN, 14},
         /* the longest, and those that fill the buffer up */
-        {1035, 0, INDRAVECK_RECORD_HOST, 1030, INDRAVECK_RECORD_HOST, 1035},
-        {1042, 7, INDRAVECK_RECORD_DEVICE, 1030, INDRAVECK_RECORD_DEVICE, 1042},
-        {5, 0, INDRAVECK_RECORD_RESET, 0, INDRAVECK_RECORD_RESET, 5},
+        {1035, 0, INDRAVECK_RECORD_HOST, 1030, INDRAVECK_RECORD_WRITTEN, 1035},
+        {1042, 7, INDRAVECK_RECORD_DEVICE, 1030, INDRAVECK_RECORD_WRITTEN, 1042},
+        {5, 0, INDRAVECK_RECORD_RESET, 0, INDRAVECK_RECORD_WRITTEN, 5},
         {1034, 0, INDRAVECK_RECORD_HOST, 1030, INDRAVECK_RECORD_NO_ROOM, 0},
         {1041, 7, INDRAVECK_RECORD_DEVICE, 1030, INDRAVECK_RECORD_NO_ROOM, 7},
         {4, 0, INDRAVECK_RECORD_RESET, 0, INDRAVECK_RECORD_NO_ROOM, 0},
@@ -455,6 +456,7 @@ static void records_written(void)
         {1100, 2, 0, 1, INDRAVECK_RECORD_BAD_DIRECTION, 2},
         {1100, 2, 2, 1, INDRAVECK_RECORD_BAD_DIRECTION, 2},
         {1100, 2, 5, 1, INDRAVECK_RECORD_BAD_DIRECTION, 2},
+        {1100, 2, 7, 1, INDRAVECK_RECORD_BAD_DIRECTION, 2},
         {1100, 2, 0x49, 1, INDRAVECK_RECORD_BAD_DIRECTION, 2},
         {1100, 2, 0x148, 1, INDRAVECK_RECORD_BAD_DIRECTION, 2},
         {1100, 2, 0xFFFFFFFF, 1, INDRAVECK_RECORD_BAD_DIRECTION, 2},
@@ -478,7 +480,7 @@ static void records_written(void)
         sprintf(what, "row %d of what is written", (int)row);
         memset(lent, 0xA5, sizeof lent);
         memset(expected, 0xA5, sizeof expected);
-        if (rows[row].answer > INDRAVECK_RECORD_END) { /* one of the directions, so that it is written */
+        if (rows[row].answer == INDRAVECK_RECORD_WRITTEN) {
             uint8_t *head = expected + GUARD + rows[row].at;
             head[0] = 0x52;
             head[1] = 0x4C;
@@ -505,10 +507,10 @@ static void a_recording(void)
     r.len = 0;
     said[0] = '\0';
     check(each_record(r.bytes, r.len, &at) == INDRAVECK_RECORD_END && at == 0 && said[0] == '\0', "no byte at all is a recording");
-    check(append(&r, INDRAVECK_RECORD_HOST, wake, sizeof wake) == INDRAVECK_RECORD_HOST && r.len == 8, "a host record is appended");
-    check(append(&r, INDRAVECK_RECORD_DEVICE, awake, sizeof awake) == INDRAVECK_RECORD_DEVICE && r.len == 15,
+    check(append(&r, INDRAVECK_RECORD_HOST, wake, sizeof wake) == INDRAVECK_RECORD_WRITTEN && r.len == 8, "a host record is appended");
+    check(append(&r, INDRAVECK_RECORD_DEVICE, awake, sizeof awake) == INDRAVECK_RECORD_WRITTEN && r.len == 15,
           "a device record is appended");
-    check(append(&r, INDRAVECK_RECORD_RESET, NULL, 0) == INDRAVECK_RECORD_RESET && r.len == 20, "a reset is appended");
+    check(append(&r, INDRAVECK_RECORD_RESET, NULL, 0) == INDRAVECK_RECORD_WRITTEN && r.len == 20, "a reset is appended");
     check(append(&r, INDRAVECK_RECORD_RESET, wake, sizeof wake) == INDRAVECK_RECORD_BAD_LENGTH && r.len == 20, "a reset with bytes is not");
     check(append(&r, 0, wake, sizeof wake) == INDRAVECK_RECORD_BAD_DIRECTION && r.len == 20, "a record without a direction is not");
     seen_len = 0;
@@ -516,7 +518,7 @@ static void a_recording(void)
     check(strcmp(said, "48 3, 44 2, 52 0, ") == 0, "each record with its direction and its length");
     check(seen_len == 5 && memcmp(seen, wake, 3) == 0 && memcmp(seen + 3, awake, 2) == 0, "and with its bytes");
 
-    while (append(&r, INDRAVECK_RECORD_HOST, write_data, sizeof write_data) == INDRAVECK_RECORD_HOST)
+    while (append(&r, INDRAVECK_RECORD_HOST, write_data, sizeof write_data) == INDRAVECK_RECORD_WRITTEN)
         ;
     full = r.len;
     check(full == 96 && r.bytes[96] == 0xA5 && r.bytes[99] == 0xA5, "what does not fit whole leaves nothing behind");

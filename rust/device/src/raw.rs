@@ -214,8 +214,8 @@ pub fn read_record(recording: &[u8], at: usize) -> Found {
     }
 }
 
-/// Writes one record at a place of a buffer: its direction if it was written, or 2, 3 or 5, never 0; and the place behind it, or `at` if it
-/// was not written. [`recording::write`](crate::recording::write) has it in words.
+/// Writes one record at a place of a buffer: 7 if it was written, or 2, 3 or 5, never 0; and the place behind it, or `at` if it was not
+/// written. [`recording::write`](crate::recording::write) has it in words.
 #[inline]
 pub fn write_record(buffer: &mut [u8], at: usize, direction: u32, bytes: &[u8]) -> (u32, usize) {
     let mut to = u64::MAX;

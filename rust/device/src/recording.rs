@@ -38,6 +38,9 @@ pub const MOST_BYTES: usize = 1030;
 /// What the library answers at a recording's end.
 pub(crate) const END: u32 = 6;
 
+/// What the library answers when a record was written.
+const WRITTEN: u32 = 7;
+
 /// Who sent a record's bytes, or that the device was reset.
 #[derive(Clone, Copy, Debug, PartialEq, Eq)]
 pub enum Direction {
@@ -269,16 +272,13 @@ pub fn write(
     bytes: &[u8],
 ) -> Result<usize, Unwritable> {
     let (answer, to) = raw::write_record(buffer, at, u32::from(direction), bytes);
-    // by the directions, and not by the argument: 2, 3 and 5 are answers to bad ones
-    if Direction::of_answer(answer).is_some() {
-        return Ok(to);
-    }
-    Err(match answer {
-        2 => Unwritable::BadDirection,
-        3 => Unwritable::BadLength,
-        5 => Unwritable::NoRoom,
+    match answer {
+        WRITTEN => Ok(to),
+        2 => Err(Unwritable::BadDirection),
+        3 => Err(Unwritable::BadLength),
+        5 => Err(Unwritable::NoRoom),
         _ => panic!("the library answered {}, which a writer never does", answer),
-    })
+    }
 }
 
 /// Writes one record behind a recording, which grows by it, so that there is always room. A record that is refused leaves the recording.

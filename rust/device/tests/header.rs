@@ -100,6 +100,8 @@ fn the_headers_numbers_of_recordings_are_the_crates() {
     let end = number("RECORD_END") as u32;
     let not_read = number("RECORD_NOT_READ") as u32;
     assert_eq!(raw::read_record(&[], 0).answer, end);
+    let written = number("RECORD_WRITTEN") as u32;
+    assert_eq!(raw::write_record(&mut [0; 5], 0, 0x52, &[]), (written, 5));
     let profile = Profile::bench().to_bytes().unwrap();
     let mut image = vec![0xFF; Profile::bench().total() as usize];
     assert_eq!(raw::replay(&profile, &mut image, &[]).ended, end);

@@ -129,14 +129,14 @@ pub(crate) fn record_read(answer: u32) -> &'static str {
     }
 }
 
-pub(crate) fn record_written(answer: u32) -> &'static str {
-    match answer {
-        0x48 => "host record written",
-        0x44 => "device record written",
-        0x52 => "reset written",
-        2 => "record refused with 2",
-        3 => "record refused with 3",
-        5 => "record refused with 5",
+pub(crate) fn record_written(direction: u32, answer: u32) -> &'static str {
+    match (answer, direction) {
+        (7, 0x48) => "host record written",
+        (7, 0x44) => "device record written",
+        (7, 0x52) => "reset written",
+        (2, _) => "record refused with 2",
+        (3, _) => "record refused with 3",
+        (5, _) => "record refused with 5",
         _ => "record written otherwise",
     }
 }

@@ -23,6 +23,7 @@ pub(crate) const HEAD: usize = 5;
 const LONGEST: usize = 1030;
 /// What reading answers at a recording's end.
 pub(crate) const END: u32 = 6;
+pub(crate) const WRITTEN: u32 = 7;
 
 /// On both sides of every length that matters, and the largest that can be said.
 const LENGTHS: [usize; 8] = [0, 1, 2, 1029, 1030, 1031, 1032, 0xFFFF];
@@ -238,7 +239,7 @@ impl<'a> Buffers<'a> {
     /// As [`write`](Buffers::write), and then all is as it was at first, so that the next record does not find itself there.
     fn try_to_write(&mut self, room: usize, at: usize, direction: u32, bytes: &[u8]) -> Outcome {
         let (answer, to) = self.write(room, at, direction, bytes)?;
-        if is_direction(answer) {
+        if answer == WRITTEN {
             let noise = &self.noise[at..to];
             self.before[at..to].copy_from_slice(noise);
             self.tested.lent_mut()[at..to].copy_from_slice(noise);
@@ -260,7 +261,7 @@ impl<'a> Buffers<'a> {
         let tested = pair.tested.write_record(buffer, at, direction, bytes);
         let buffer = &mut self.model.lent_mut()[..room];
         let right = pair.model.write_record(buffer, at, direction, bytes);
-        pair.happened(effects::record_written(right.0));
+        pair.happened(effects::record_written(direction, right.0));
         pair.same("the answer", tested, right)
             .and_then(|()| pair.same_bytes("the buffer", self.tested.lent(), self.model.lent()))
             .and_then(|()| self.follow(room, at, direction, bytes, right))
@@ -286,12 +287,12 @@ impl<'a> Buffers<'a> {
         bytes: &[u8],
         (answer, to): (u32, usize),
     ) -> Result<(), String> {
-        if !is_direction(answer) {
+        if answer != WRITTEN {
             if !matches!(answer, 2 | 3 | 5) || to != at {
                 return Err(format!("{} with the place {} is no answer", answer, to));
             }
         } else {
-            if (answer, to) != (direction, at + HEAD + bytes.len()) || to > room {
+            if !is_direction(direction) || to != at + HEAD + bytes.len() || to > room {
                 return Err(format!("{} with the place {} is no answer", answer, to));
             }
             self.before[at..to].copy_from_slice(&record(direction as u8, bytes));
@@ -302,7 +303,7 @@ impl<'a> Buffers<'a> {
         if !self.tested.is_guarded() || !self.model.is_guarded() {
             return Err("what is around the buffer changed".to_string());
         }
-        if is_direction(answer) {
+        if answer == WRITTEN {
             let found = self.pair.read_record(&self.tested.lent()[..room], at)?;
             if (found.answer, found.from, found.to) != (direction, at + HEAD, to) {
                 return Err(format!("it is read back as {:?}", found));
@@ -393,11 +394,11 @@ fn record_examples(pair: &Pair) -> Outcome {
         (0, 0, 0x44, 1031, (3, 0)),
         (9, 0, 0x52, 1, (3, 0)),
         (0, 0, 0x52, 0, (5, 0)),
-        (5, 0, 0x52, 0, (0x52, 5)),
+        (5, 0, 0x52, 0, (WRITTEN, 5)),
         (5, 1, 0x52, 0, (5, 1)),
         (9, 4, 0x48, 1, (5, 4)),
-        (9, 3, 0x48, 1, (0x48, 9)),
-        (1040, 5, 0x44, 1030, (0x44, 1040)),
+        (9, 3, 0x48, 1, (WRITTEN, 9)),
+        (1040, 5, 0x44, 1030, (WRITTEN, 1040)),
         (1039, 5, 0x44, 1030, (5, 5)),
         (9, usize::MAX - 5, 0x48, 1, (5, usize::MAX - 5)),
     ];

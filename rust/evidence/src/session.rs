@@ -3,7 +3,7 @@
 use crate::noise::Noise;
 use crate::packets::{command, data, range, ERASE, MOST_DATA, NEXT, READ, WAKE_UP, WRITE};
 use crate::profiles::{self, CONFIG, USER};
-use crate::recordings::{record, DEVICE, END, HEAD as RECORD_HEAD, HOST};
+use crate::recordings::{record, DEVICE, END, HEAD as RECORD_HEAD, HOST, WRITTEN};
 use crate::subject::{Fed, Model, Subject, BUFFER_BYTES, STATE_BYTES};
 use indraveck_model as model;
 use std::ops::Range;
@@ -296,7 +296,7 @@ impl Session {
             let direction = u32::from(*direction);
             let bytes = &self.tape.bytes[place.clone()];
             let (answer, to) = subject.write_record(&mut memory.tape, at, direction, bytes);
-            assert_eq!(answer, direction, "a session's record is written");
+            assert_eq!(answer, WRITTEN, "a session's record is written");
             at = to;
         }
         at

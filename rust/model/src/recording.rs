@@ -20,6 +20,7 @@ const BAD_LENGTH: u32 = 3;
 const CUT_SHORT: u32 = 4;
 const NO_ROOM: u32 = 5;
 pub(crate) const END: u32 = 6;
+const WRITTEN: u32 = 7;
 
 /// What a reader answers: the record's direction, 6 at the end or 1 to 4 for
 /// a refusal, and where the record's contents begin and end. Without a record
@@ -41,8 +42,8 @@ pub fn read_record_with(f: Option<Fault>, recording: &[u8], at: usize) -> Found 
     reading(f, recording, at)
 }
 
-/// Writes one record at a place: its direction and the place behind it, or
-/// the number of the refusal (2, 3 or 5) and the place itself.
+/// Writes one record at a place: 7 and the place behind it, or the number of
+/// the refusal (2, 3 or 5) and the place itself.
 pub fn write_record(buffer: &mut [u8], at: usize, direction: u32, bytes: &[u8]) -> (u32, usize) {
     writing(Right, buffer, at, direction, bytes)
 }
@@ -211,20 +212,20 @@ fn writing<F: Faults>(
     bytes: &[u8],
 ) -> (u32, usize) {
     match write_at(f, buffer, at, direction, bytes) {
-        Ok((direction, behind)) => (direction.into(), behind),
+        Ok(behind) => (WRITTEN, behind),
         Err(answer) if f.has(Fault::UnwrittenRecordPassed) => (answer, at.wrapping_add(HEAD)),
         Err(answer) => (answer, at),
     }
 }
 
-/// The direction and the place behind the record, or why it isn't written.
+/// The place behind the record, or why it isn't written.
 fn write_at<F: Faults>(
     f: F,
     buffer: &mut [u8],
     at: usize,
     direction: u32,
     bytes: &[u8],
-) -> Result<(u8, usize), u32> {
+) -> Result<usize, u32> {
     let low = direction as u8;
     let known = is_direction(low)
         && (u32::from(low) == direction || f.has(Fault::DirectionAbove255Written));
@@ -251,7 +252,7 @@ fn write_at<F: Faults>(
     }
     let wrapped = at.wrapping_add(HEAD + bytes.len());
     if f.has(Fault::FarPlaceWraps) && wrapped < at {
-        return Ok((low, wrapped));
+        return Ok(wrapped);
     }
 
     let length = bytes.len() as u16;
@@ -272,5 +273,5 @@ fn write_at<F: Faults>(
     if f.has(Fault::BytesBehindCleared) {
         buffer[behind..].fill(0);
     }
-    Ok((low, behind))
+    Ok(behind)
 }

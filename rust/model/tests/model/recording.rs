@@ -68,10 +68,15 @@ fn records_of_every_length_are_read_and_written() {
             assert_eq!(read_record(&recording, 0), Found { answer, from, to });
             let mut buffer = vec![UNTOUCHED; 5 + count];
             let written = write_record(&mut buffer, 0, direction.into(), &contents);
-            assert_eq!(written, (answer, to));
             match good {
-                true => assert_eq!(buffer, recording),
-                false => assert!(buffer.iter().all(|byte| *byte == UNTOUCHED)),
+                true => {
+                    assert_eq!(written, (7, to));
+                    assert_eq!(buffer, recording);
+                }
+                false => {
+                    assert_eq!(written, (answer, to));
+                    assert!(buffer.iter().all(|byte| *byte == UNTOUCHED));
+                }
             }
         }
     }
@@ -111,7 +116,7 @@ fn what_cannot_be_written_leaves_the_buffer() {
         assert_eq!(buffer, [UNTOUCHED; 10]);
     }
     let mut buffer = [UNTOUCHED; 10];
-    assert_eq!(write_record(&mut buffer, 3, 0x48, &[9, 8]), (0x48, 10));
+    assert_eq!(write_record(&mut buffer, 3, 0x48, &[9, 8]), (7, 10));
     assert_eq!(buffer[..3], [UNTOUCHED; 3]);
     assert_eq!(buffer[3..], [0x52, 0x4C, 0x48, 0, 2, 9, 8]);
 }
