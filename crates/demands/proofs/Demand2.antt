@@ -1,5 +1,5 @@
 -- Demand 2, proved. Assumes nothing.
-use Rattle.flash.specs.Effects.{storing, erasing, stored, erased, blanked}
+use Rattle.flash.specs.Effects.{storing, erasing, stored, erased}
 use Rattle.flash.proofs.ByAddress.{changed-at, blanked-at}
 use Rattle.device_steps.proofs.Decided.{step-complete, step-early}
 use Rattle.demands.specs.Demand2.{Demand2}

@@ -4,7 +4,7 @@ use Rattle.recording.proofs.Exactly.{end-exactly, refused-exactly}
 use Rattle.recording.proofs.Back.{read-part, records-formed, writes-back}
 use Rattle.recording.proofs.Steady.{read-on, refused-on}
 use Rattle.record_writer.proofs.ReadBack as writer
-use Rattle.demands.specs.Disk.{Reads, Writes, OnDisk}
+use Rattle.demands.specs.Disk.{OnDisk}
 
 pub on-disk : OnDisk
 on-disk =

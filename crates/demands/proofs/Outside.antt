@@ -1,6 +1,6 @@
 -- The demands for callers in C, proved. Assumes nothing.
 use mathlib.Core.List.{List, _++_}
-use mathlib.Core.Option.{Option, none, some}
+use mathlib.Core.Option.{Option, some}
 use mathlib.Core.Logic.{_↔_}
 use mathlib.Core.Path.{_≡_, refl, sym, ap, subst, _∙_}
 use Prim.Native.Nat.{ℕ}
@@ -22,7 +22,7 @@ use Rattle.device_calls.specs.declared.Refusal.{Refusal}
 use Rattle.device_calls.specs.declared.Refusal.the-variants.{Accepted, By}
 use Rattle.device_calls.specs.Calls.{buffers, rowNumber, numberOf, startRows, feedRows, refusalOf, startRefusal, startedAt}
 use Rattle.device_steps.specs.Feed.{Delivery}
-use Rattle.interface.specs.Calls.{LentBytes, startingRows, stateRows, feedingRows, startingRefusal, feedingRefusal}
+use Rattle.interface.specs.Calls.{LentBytes, stateRows, feedingRows, startingRefusal, feedingRefusal}
 use Rattle.interface.specs.Post.{Numbers, StartedBytes, ResetBytes, resetOver, deliveryOf, RanBytes, UnfedBytes, FedBytes, FeedsBytes}
 use Rattle.interface_replay.specs.Post.{imageBy, extentBy, Replayed}
 use Rattle.interface_record.proofs.Tells.{record-told, end-told, fault-told, place-stays, reading-answered, written-told, unwritten-told, written-place, writing-answered}

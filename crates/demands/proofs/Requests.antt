@@ -6,7 +6,6 @@ use mathlib.Core.Path.{_≡_, sym, subst}
 use Prim.Native.Nat.{ℕ}
 use Rattle.profile.specs.declared.Profile.{Profile}
 use Rattle.profile_rules.specs.Rules.{Accepted as Acceptable}
-use Rattle.packet.specs.declared.Kind.{Kind}
 use Rattle.packet.specs.declared.Progress.the-variants.{Unfit}
 use Rattle.packet.specs.Packet.{progressOf, isComplete}
 use Rattle.packet.proofs.Laws.{impossible}

@@ -1,10 +1,9 @@
 -- The rows of a call: the first that applies gives the refusal; the promises of the calls say which rows. Assumes nothing.
-use mathlib.Core.Bool.{true, false, cond}
-use mathlib.Core.List.{List, [], _∷_, _++_}
+use mathlib.Core.Bool.{cond}
+use mathlib.Core.List.{List}
 use mathlib.Core.Option.{Option, none, some}
 use mathlib.Core.Path.{_≡_, refl, sym, ap, subst, _∙_}
 use Prim.Native.Nat.{ℕ}
-use lib.ListN.{length}
 use lib.Dec.{eqb}
 use Rattle.verdict.specs.Check.{Check, firstFault}
 use Rattle.verdict.proofs.FirstFault.{clear, grants, first, first-found}
@@ -17,7 +16,7 @@ use Rattle.device_calls.specs.declared.Row.the-variants.{Unacceptable, WrongIma
 use Rattle.device_calls.specs.declared.Refusal.{Refusal}
 use Rattle.device_calls.specs.declared.Refusal.the-variants.{Accepted, By}
 use Rattle.device_calls.specs.declared.Started.{Started}
-use Rattle.device_calls.specs.Calls.{Lent, numberOf, startRows, feedRows, refusalOf, startRefusal, feedRefusal, startedAt, Starts}
+use Rattle.device_calls.specs.Calls.{Lent, numberOf, refusalOf, startRefusal, feedRefusal, startedAt, Starts}
 use Rattle.device_calls.proofs.Rows.{no-row}
 use Rattle.device_steps.specs.Feed.{Delivery, feedOf}
 use Rattle.device_steps.specs.Step.{machineOf}

@@ -3,8 +3,8 @@
 use mathlib.Core.Bool.{Bool, true, false, cond}
 use mathlib.Core.List.{List, [], _∷_, _++_, append-nil}
 use mathlib.Core.Logic.{⊎-elim}
-use mathlib.Core.Path.{_≡_, refl, sym, ap, subst, _∙_}
-use Prim.Native.Nat.{ℕ, zero, suc, _+_, _≤_}
+use mathlib.Core.Path.{_≡_, refl, sym, ap, _∙_}
+use Prim.Native.Nat.{ℕ, suc, _+_, _≤_}
 use native.Mathlib.Numerals.{add-one}
 use native.Mathlib.Omega.{arith}
 use lib.ListN.{length, take, drop}
@@ -28,7 +28,7 @@ use Rattle.device.specs.declared.Fed.{Fed}
 use Rattle.device.specs.Post.{Ran, Unfed, Feeds}
 use Rattle.device.proofs.Turns.{machine-eq}
 use Rattle.record_exchange.specs.Line.{Entry, exchange, restart}
-use Rattle.record_history.specs.History.{Call, deliver, again, freshOf, hearing, machineAfter, entriesAt, heardRecord, recordOf}
+use Rattle.record_history.specs.History.{deliver, hearing, machineAfter, entriesAt, heardRecord, recordOf}
 use Rattle.record_history.proofs.Cut.{feed-hears}
 use Rattle.record_history.proofs.Recorded.{unanswered-entry, entry-asked, entry-unasked, record-continued, machine-continued, delivery-record}
 use Rattle.demands.specs.Line.{IsReply, packetsIn, answersIn}

@@ -1,16 +1,16 @@
 -- Where a delivery stops, what its packets are answered, and which bytes are not. Assumes nothing.
-use mathlib.Core.Bool.{Bool, true, false}
-use mathlib.Core.List.{List, [], _∷_, _++_}
+use mathlib.Core.Bool.{false}
+use mathlib.Core.List.{List, [], _∷_}
 use mathlib.Core.Logic.{_⊎_, inl, inr, ⊎-elim, _↔_}
-use mathlib.Core.Option.{Option, none, some}
-use mathlib.Core.Path.{_≡_, refl, sym, ap, subst, _∙_}
+use mathlib.Core.Option.{none, some}
+use mathlib.Core.Path.{_≡_, refl, ap, subst, _∙_}
 use Prim.Native.Nat.{ℕ, suc, _+_, _<_}
 use native.Mathlib.Numerals.{add-one}
 use native.Mathlib.Omega.{arith}
 use lib.ListN.{length}
 use Rattle.verdict.specs.declared.Reason.{Reason}
 use Rattle.verdict.specs.declared.Verdict.the-variants.{Granted, Refused}
-use Rattle.verdict.specs.Check.{Check, firstFault, NoneApplies}
+use Rattle.verdict.specs.Check.{Check, firstFault}
 use Rattle.verdict.proofs.FirstFault.{clear, grants, first-found}
 use Rattle.profile.specs.declared.Profile.{Profile}
 use Rattle.profile.specs.Areas.{areasOf}
@@ -42,7 +42,7 @@ use Rattle.device_steps.specs.Step.{Machine, Step, settled, heard, stepIn, step
 use Rattle.device_steps.specs.Feed.{Delivery, feedOf}
 use Rattle.device_steps.specs.Records.{isUnfit, progressIn, heardWith, completes, refuses, Brings}
 use Rattle.device_steps.proofs.Decided.{RefusedWith, command-refused, command-granted, command-told, write-refused, write-granted, write-told, next-refused, next-granted, next-told}
-use Rattle.device_steps.proofs.Delivered.{later, atOnce, nothing, by-reply}
+use Rattle.device_steps.proofs.Delivered.{later, nothing, by-reply}
 use Rattle.device_steps.proofs.Replies.{Unasked, unbrought, quiet-step}
 use Rattle.record_history.specs.History.{hearing}
 use Rattle.demands.specs.Line.{EachIn}

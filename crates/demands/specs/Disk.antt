@@ -2,7 +2,7 @@
 use mathlib.Core.List.{List, _++_}
 use mathlib.Core.Logic.{_↔_}
 use mathlib.Core.Path.{_≡_}
-use Prim.Native.Nat.{ℕ, _+_, _<_}
+use Prim.Native.Nat.{ℕ, _+_}
 use lib.ListN.{length, take, drop}
 use Rattle.numbers.specs.Bytes.{AllBytes}
 use Rattle.verdict.specs.Check.{NoneApplies, IsFirst}
@@ -12,7 +12,7 @@ use Rattle.recording.specs.declared.Fault.the-variants.{CutShort}
 use Rattle.recording.specs.declared.Part.{Part}
 use Rattle.recording.specs.declared.Found.the-variants.{Is, End, Refused}
 use Rattle.recording.specs.declared.Ended.the-variants.{Not, Whole}
-use Rattle.recording.specs.Format.{headLength, directionNumber, rules, entry, Record, AllFormed, written}
+use Rattle.recording.specs.Format.{headLength, rules, entry, Record, AllFormed, written}
 use Rattle.recording.specs.Recording.{readChecks, foundAt, HasAt, bytesIn, recordsOf, readable, extentOf}
 use Rattle.record_writer.specs.declared.Written.{Written}
 use Rattle.record_writer.specs.declared.Written.the-variants.{Behind, Refused as NotWritten}

@@ -1,5 +1,5 @@
 -- Words for the statements about a line: its bytes one by one, the replies that it brings, its record.
-use mathlib.Core.Bool.{true, false, cond}
+use mathlib.Core.Bool.{true, cond}
 use mathlib.Core.List.{List, [], _∷_, _++_}
 use mathlib.Core.Path.{_≡_}
 use Prim.Native.Nat.{ℕ}

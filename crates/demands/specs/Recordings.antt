@@ -11,7 +11,7 @@ use Rattle.recording.specs.declared.Ended.the-variants.{Whole}
 use Rattle.recording.specs.declared.Extent.{Extent}
 use Rattle.recording.specs.Format.{written, AllFormed}
 use Rattle.recording.specs.Recording.{recordsOf, extentOf}
-use Rattle.record_exchange.specs.Line.{Entry, exchangesOf, taped}
+use Rattle.record_exchange.specs.Line.{exchangesOf, taped}
 use Rattle.record_replay.specs.Replay.{replay}
 use Rattle.record_replay.specs.Post.{Played}
 use Rattle.device_calls.specs.declared.Row.{Row}

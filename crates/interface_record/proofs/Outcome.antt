@@ -1,9 +1,8 @@
 -- What a record that is written from outside leaves; no second outcome. Assumes nothing.
 use mathlib.Core.List.{List}
-use mathlib.Core.Path.{_≡_, refl, sym, ap, _∙_}
+use mathlib.Core.Path.{_≡_, refl, ap, _∙_}
 use Prim.Native.Nat.{ℕ, _≤_, _<_}
 use native.Mathlib.Omega.{arith}
-use Rattle.verdict.specs.Check.{firstFault}
 use Rattle.verdict.proofs.OneAnswer.{one-answer}
 use Rattle.recording.specs.declared.Direction.{Direction}
 use Rattle.recording.specs.declared.Direction.the-variants.{Host, Device, Reset}
@@ -13,7 +12,7 @@ use Rattle.recording.specs.declared.Fault.the-variants.{BadDirection}
 use Rattle.recording.specs.Format.{directionNumber, directedOf, faultNumber}
 use Rattle.recording.proofs.Laws.{directed-number}
 use Rattle.record_writer.specs.declared.Written.{Written}
-use Rattle.record_writer.specs.Writing.{writerChecks, Wrote}
+use Rattle.record_writer.specs.Writing.{Wrote}
 use Rattle.record_writer.proofs.Laws.{direction-refused}
 use Rattle.interface_record.specs.Post.{writtenNumber, placeBy, ReadsBytes, WritesBytes}
 

@@ -1,5 +1,5 @@
 -- What the code's tests say of a record that is to be written. Assumes nothing.
-use mathlib.Core.Bool.{Bool, true, false}
+use mathlib.Core.Bool.{true, false}
 use mathlib.Core.List.{List, [], _∷_, _++_, append-nil}
 use mathlib.Core.Path.{_≡_, refl, sym, ap, subst, _∙_}
 use Prim.Native.Nat.{ℕ, _+_, _-_, _≤_}
@@ -12,7 +12,7 @@ use Rattle.numbers.specs.Bytes.{bytesOf, withNumber}
 use Rattle.numbers.proofs.Copied.{part-count, pasted}
 use Rattle.verdict.specs.Check.{firstFault}
 use Rattle.recording.specs.declared.Direction.{Direction}
-use Rattle.recording.specs.declared.Directed.the-variants.{Known, Unknown}
+use Rattle.recording.specs.declared.Directed.the-variants.{Unknown}
 use Rattle.recording.specs.declared.Fault.the-variants.{BadDirection, BadLength, NoRoom}
 use Rattle.recording.specs.Format.{directionNumber, directedOf, lengthAllowed, entry}
 use Rattle.recording.proofs.Laws.{directed-back}

@@ -1,15 +1,14 @@
 -- What writing leaves, exactly; what was written reads back, one record and many; reader and writer accept the same. Assumes nothing.
-use mathlib.Core.Bool.{Bool, true, not}
-use mathlib.Core.List.{List, [], _∷_, _++_, append-assoc, append-nil}
+use mathlib.Core.Bool.{true, not}
+use mathlib.Core.List.{List, _++_, append-assoc, append-nil}
 use mathlib.Core.Logic.{_↔_}
 use mathlib.Core.Option.{Option, none, some}
-use mathlib.Core.Path.{_≡_, refl, sym, ap, subst, _∙_}
+use mathlib.Core.Path.{_≡_, refl, sym, ap, _∙_}
 use Prim.Native.Nat.{ℕ, _+_, _-_, _≤_}
 use native.Mathlib.Omega.{arith}
-use lib.ListN.{length, take, drop, length-append, length-drop}
-use lib.Dec.{leb}
-use lib.Seq.{length-take-le, take-length, take-at, drop-at, take-append-add, drop-append-add, take-append-seam}
-use borrow.Author.Tests.{leb-true, le-leb, not-false}
+use lib.ListN.{length, take, drop, length-append}
+use lib.Seq.{length-take-le, take-length, take-at, drop-at}
+use borrow.Author.Tests.{leb-true, not-false}
 use Rattle.numbers.specs.Bytes.{AllBytes}
 use Rattle.verdict.specs.Check.{Check, firstFault, NoneApplies, IsFirst}
 use Rattle.verdict.proofs.FirstFault.{clear, grants, first, first-found}
@@ -21,9 +20,8 @@ use Rattle.recording.specs.declared.Fault.{Fault}
 use Rattle.recording.specs.declared.Fault.the-variants.{BadMark, BadDirection, BadLength, CutShort, NoRoom}
 use Rattle.recording.specs.declared.Part.{Part}
 use Rattle.recording.specs.declared.Ended.the-variants.{Whole}
-use Rattle.recording.specs.declared.Found.the-variants.{Is}
-use Rattle.recording.specs.Format.{headLength, directionNumber, directedOf, isKnown, lengthAllowed, rules, entry, Record, directionOf, payload, entryOf, written, Formed, AllFormed}
-use Rattle.recording.specs.Recording.{directionAt, countAt, partAt, foundAt, HasAt, bytesIn, recordsOf, readable, extentOf}
+use Rattle.recording.specs.Format.{headLength, directionNumber, directedOf, isKnown, lengthAllowed, rules, entry, Record, directionOf, payload, entryOf, written, AllFormed}
+use Rattle.recording.specs.Recording.{directionAt, countAt, HasAt, recordsOf, extentOf}
 use Rattle.recording.proofs.Laws.{directed-number, directed-back}
 use Rattle.recording.proofs.Written.{entry-length, entry-found, entry-bytes, reads-back, reads-whole}
 use Rattle.recording.proofs.Exactly.{record-tells, AllGive, gives-only}

@@ -1,27 +1,25 @@
 -- A record is read exactly where its bytes stand; what can be read, written again, is what was read. Assumes nothing.
 use mathlib.Core.Bool.{true}
 use mathlib.Core.List.{List, [], _∷_, _++_}
-use mathlib.Core.Path.{_≡_, refl, sym, ap, subst, _∙_}
-use Prim.Native.Nat.{ℕ, zero, suc, _+_, _-_, _≤_, _<_, min}
+use mathlib.Core.Path.{_≡_, refl, sym, ap, _∙_}
+use Prim.Native.Nat.{ℕ, zero, suc, _+_, _-_, _≤_}
 use native.Mathlib.Omega.{arith}
-use lib.ListN.{length, take, drop, getD, length-take, length-drop, take-append-drop}
-use lib.Dec.{eqb}
+use lib.ListN.{length, take, drop, length-take, length-drop, take-append-drop}
 use lib.Seq.{length-take-le, take-length, drop-cons, drop-drop, take-add}
 use borrow.Author.Tests.{eqb-true}
-use Rattle.numbers.specs.Bytes.{number, bytesOf, field, AllBytes}
+use Rattle.numbers.specs.Bytes.{bytesOf, field, AllBytes}
 use Rattle.numbers.proofs.RoundTrip.{bytes-number, all-take, all-drop}
 use Rattle.numbers.proofs.Same.{same-eq}
 use Rattle.numbers.proofs.There.{field-there}
 use Rattle.recording.specs.declared.Direction.{Direction}
 use Rattle.recording.specs.declared.Direction.the-variants.{Host, Device, Reset}
-use Rattle.recording.specs.declared.Fault.{Fault}
 use Rattle.recording.specs.declared.Part.{Part}
 use Rattle.recording.specs.declared.Found.{Found}
 use Rattle.recording.specs.declared.Found.the-variants.{Is, End, Refused}
 use Rattle.recording.specs.declared.Ended.the-variants.{Whole}
-use Rattle.recording.specs.Format.{mark, headLength, directionNumber, lengthAllowed, entry, Record, entryOf, written, Formed, AllFormed}
-use Rattle.recording.specs.Recording.{directionAt, countAt, partAt, foundAt, HasAt, bytesIn, recordBy, continued, recordsWithin, recordsFrom, recordsOf, stopped, stopWithin, stopFrom, readable, extentOf, LiesBehind}
-use Rattle.recording.proofs.Reading.{Checked, Lies, lies, found-lies, whole-exactly}
+use Rattle.recording.specs.Format.{mark, headLength, directionNumber, lengthAllowed, entry, entryOf, written, Formed, AllFormed}
+use Rattle.recording.specs.Recording.{directionAt, countAt, partAt, foundAt, HasAt, bytesIn, recordBy, continued, recordsWithin, recordsOf, stopped, stopWithin, readable, extentOf, LiesBehind}
+use Rattle.recording.proofs.Reading.{Checked, found-lies, whole-exactly}
 use Rattle.recording.proofs.Written.{entry-length, entry-found, entry-bytes}
 use Rattle.recording.proofs.Exactly.{record-tells}
 

@@ -1,24 +1,18 @@
 -- What the reader answers, exactly: a record where its bytes stand, the end at the end, otherwise the first fault; and what is read is what
 -- was written. Assumes nothing.
 use mathlib.Core.Bool.{Bool, true, false, cond}
-use mathlib.Core.List.{List, [], _∷_, _++_, append-assoc}
+use mathlib.Core.List.{List, [], _∷_}
 use mathlib.Core.Logic.{_↔_}
 use mathlib.Core.Option.{Option, none, some}
 use mathlib.Core.Path.{_≡_, refl, sym, ap, subst, _∙_}
-use Prim.Native.Nat.{ℕ, zero, suc, _+_, _-_, _≤_, _<_}
+use Prim.Native.Nat.{ℕ, _-_}
 use native.Mathlib.Omega.{arith}
-use lib.ListN.{length, take, drop, getD, length-take, length-drop, take-append-drop}
+use lib.ListN.{length}
 use lib.Dec.{eqb}
-use lib.Seq.{length-take-le, take-all, drop-cons, drop-drop, take-add, drop-length}
-use borrow.Author.Tests.{eq-eqb, ne-eqb, eqb-true}
-use Rattle.numbers.specs.Bytes.{number, bytesOf, field, AllBytes}
-use Rattle.numbers.proofs.RoundTrip.{bytes-number, all-take, all-drop}
-use Rattle.numbers.proofs.Same.{same-eq}
-use Rattle.numbers.proofs.There.{field-there}
+use borrow.Author.Tests.{eq-eqb, eqb-true}
 use Rattle.verdict.specs.Check.{Check, _gives_, firstFault, IsFirst}
 use Rattle.verdict.proofs.FirstFault.{found, first, first-found}
 use Rattle.recording.specs.declared.Direction.{Direction}
-use Rattle.recording.specs.declared.Direction.the-variants.{Host, Device, Reset}
 use Rattle.recording.specs.declared.Directed.{Directed}
 use Rattle.recording.specs.declared.Directed.the-variants.{Known, Unknown}
 use Rattle.recording.specs.declared.Fault.{Fault}
@@ -26,12 +20,10 @@ use Rattle.recording.specs.declared.Fault.the-variants.{BadMark, BadDire
 use Rattle.recording.specs.declared.Part.{Part}
 use Rattle.recording.specs.declared.Found.{Found}
 use Rattle.recording.specs.declared.Found.the-variants.{Is, End, Refused}
-use Rattle.recording.specs.declared.Ended.the-variants.{Whole}
-use Rattle.recording.specs.Format.{mark, headLength, directionNumber, directedOf, lengthAllowed, isKnown, entry, Record, host, device, reset, directionOf, payload, entryOf, written, Formed, AllFormed}
-use Rattle.recording.specs.Recording.{directionAt, countAt, partAt, lengthChecks, readChecks, foundBy, foundAt, HasAt, bytesIn, recordBy, continued, recordsWithin, recordsFrom, recordsOf, stopped, stopWithin, stopFrom, readable, extentOf, LiesBehind}
+use Rattle.recording.specs.Format.{directionNumber, directedOf, isKnown}
+use Rattle.recording.specs.Recording.{directionAt, partAt, lengthChecks, readChecks, foundBy, foundAt}
 use Rattle.recording.proofs.Laws.{directed-number, found-end}
-use Rattle.recording.proofs.Reading.{Checked, checked, found-lies, lies, Lies, whole-exactly}
-use Rattle.recording.proofs.Written.{entry-length, entry-found, entry-bytes}
+use Rattle.recording.proofs.Reading.{Checked, checked, lies, Lies}
 
 -- what was found is the end, a record to which no check applies, or the first fault
 pub data Tells (s : List ℕ) (at : ℕ) : Found → Type 0 where

@@ -1,27 +1,24 @@
 -- What the code's tests say of a record's fields. Assumes nothing.
-use mathlib.Core.Bool.{Bool, true, false, not, _&&_, cond}
+use mathlib.Core.Bool.{Bool, true, false, _&&_, cond}
 use mathlib.Core.List.{List, [], _∷_}
-use mathlib.Core.Option.{Option, none, some}
 use mathlib.Core.Path.{_≡_, refl, sym, ap, _∙_}
-use Prim.Native.Nat.{ℕ, suc, _+_, _-_, _≤_, _<_}
+use Prim.Native.Nat.{ℕ, suc, _+_, _-_, _≤_}
 use native.Mathlib.Omega.{arith}
 use lib.ListN.{length, take, drop, getD}
 use lib.Dec.{leb, eqb}
 use lib.Seq.{drop-cons}
-use borrow.Author.Tests.{le-leb, lt-leb, leb-true, eq-eqb, ne-eqb, eqb-true, not-true, not-false}
+use borrow.Author.Tests.{le-leb, eq-eqb, ne-eqb, eqb-true}
 use Rattle.numbers.specs.Bytes.{number, field, numberAt}
 use Rattle.numbers.specs.Same.{same}
 use Rattle.numbers.specs.declared.Number.the-variants.{Is as Number, CutShort as NumberCut}
 use Rattle.verdict.specs.Check.{firstFault}
 use Rattle.recording.specs.declared.Direction.{Direction}
 use Rattle.recording.specs.declared.Direction.the-variants.{Host, Device, Reset}
-use Rattle.recording.specs.declared.Directed.{Directed}
 use Rattle.recording.specs.declared.Directed.the-variants.{Known, Unknown}
-use Rattle.recording.specs.declared.Fault.{Fault}
 use Rattle.recording.specs.declared.Fault.the-variants.{BadMark, BadDirection, BadLength, CutShort}
 use Rattle.recording.specs.declared.Found.{Found}
 use Rattle.recording.specs.declared.Found.the-variants.{Is, End, Refused}
-use Rattle.recording.specs.Format.{mark, directionNumber, directedIn, directedOf, lengthAllowed, isKnown}
+use Rattle.recording.specs.Format.{mark, directionNumber, directedIn, directedOf, lengthAllowed}
 use Rattle.recording.specs.Recording.{countAt, directionAt, partAt, lengthChecks, readChecks, foundBy, foundAt}
 
 -- the directions and their numbers

@@ -1,14 +1,14 @@
 -- What a record that is read is; where its part lies; that records are read one behind the other, and where and why reading stops.
 -- Assumes nothing.
-use mathlib.Core.Bool.{Bool, true, false, not, cond}
+use mathlib.Core.Bool.{Bool, true, false, cond}
 use mathlib.Core.List.{List, [], _∷_}
 use mathlib.Core.Logic.{_⊎_, inl, inr}
 use mathlib.Core.Option.{Option, none, some}
 use mathlib.Core.Path.{_≡_, refl, sym, ap, subst, _∙_}
-use Prim.Native.Nat.{ℕ, zero, suc, _+_, _-_, _≤_, _<_}
+use Prim.Native.Nat.{ℕ, zero, suc, _-_, _≤_, _<_}
 use native.Mathlib.Omega.{arith}
 use lib.ListN.{length}
-use lib.Dec.{leb, eqb}
+use lib.Dec.{eqb}
 use borrow.Author.Tests.{leb-true, eqb-true, not-false}
 use denote.Enum.Declared.{tagOf}
 use Rattle.numbers.specs.Bytes.{field}
@@ -22,10 +22,8 @@ use Rattle.recording.specs.declared.Fault.{Fault}
 use Rattle.recording.specs.declared.Part.{Part}
 use Rattle.recording.specs.declared.Found.{Found}
 use Rattle.recording.specs.declared.Found.the-variants.{Is, End, Refused}
-use Rattle.recording.specs.declared.Ended.{Ended}
 use Rattle.recording.specs.declared.Ended.the-variants.{Not, Whole, By}
-use Rattle.recording.specs.declared.Extent.{Extent}
-use Rattle.recording.specs.Format.{mark, directionNumber, directedOf, lengthAllowed, isKnown, Record}
+use Rattle.recording.specs.Format.{mark, directedOf, lengthAllowed, isKnown, Record}
 use Rattle.recording.specs.Recording.{directionAt, countAt, partAt, lengthChecks, readChecks, foundBy, foundAt, bytesIn, recordBy, continued, recordsWithin, recordsFrom, stopped, stopWithin, stopFrom, endedBy, extentAt, extentOf, LiesBehind, Inside}
 use Rattle.recording.proofs.Found.{the-type}
 use Rattle.recording.proofs.Laws.{found-end}

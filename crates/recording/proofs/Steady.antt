@@ -2,9 +2,9 @@
 use mathlib.Core.Bool.{Bool, true, false}
 use mathlib.Core.List.{List, _++_}
 use mathlib.Core.Path.{_≡_, refl, sym, ap, _∙_}
-use Prim.Native.Nat.{ℕ, _+_, _≤_, _<_}
+use Prim.Native.Nat.{ℕ, _+_, _≤_}
 use native.Mathlib.Omega.{arith}
-use lib.ListN.{length, take, drop, getD, length-append, length-drop, List·getD-append}
+use lib.ListN.{length, take, drop, length-append, length-drop, List·getD-append}
 use lib.Dec.{leb}
 use lib.Seq.{take-append-le, drop-append-le}
 use borrow.Author.Tests.{le-leb, leb-true}
@@ -14,13 +14,12 @@ use Rattle.recording.specs.declared.Direction.{Direction}
 use Rattle.recording.specs.declared.Directed.{Directed}
 use Rattle.recording.specs.declared.Directed.the-variants.{Known, Unknown}
 use Rattle.recording.specs.declared.Fault.{Fault}
-use Rattle.recording.specs.declared.Fault.the-variants.{BadMark, BadDirection, BadLength, CutShort}
+use Rattle.recording.specs.declared.Fault.the-variants.{CutShort}
 use Rattle.recording.specs.declared.Part.{Part}
-use Rattle.recording.specs.declared.Found.{Found}
 use Rattle.recording.specs.declared.Found.the-variants.{Is, Refused}
 use Rattle.recording.specs.Format.{mark, directionNumber, directedOf, lengthAllowed}
 use Rattle.recording.specs.Recording.{directionAt, countAt, partAt, foundAt}
-use Rattle.recording.proofs.Laws.{directed-number, directed-back, head-cut, length-bad, bytes-cut, bytes-there, mark-cut, mark-bad, direction-cut, direction-bad, direction-known}
+use Rattle.recording.proofs.Laws.{directed-back, head-cut, length-bad, bytes-cut, bytes-there, mark-cut, mark-bad, direction-cut, direction-bad, direction-known}
 use Rattle.recording.proofs.Exactly.{record-tells, refused-exactly}
 
 -- a field that is whole

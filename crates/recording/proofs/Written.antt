@@ -2,9 +2,9 @@
 use mathlib.Core.Bool.{Bool, true, false, _&&_, cond}
 use mathlib.Core.List.{List, [], _∷_, _++_, append-assoc}
 use mathlib.Core.Path.{_≡_, refl, sym, ap, _∙_}
-use Prim.Native.Nat.{ℕ, _+_, _-_, _≤_, _<_}
+use Prim.Native.Nat.{ℕ, _+_, _-_, _≤_}
 use native.Mathlib.Omega.{arith}
-use lib.ListN.{length, take, drop, getD, length-append}
+use lib.ListN.{length, length-append}
 use lib.Seq.{getD-append-add, drop-append-seam, drop-append-add, take-append-seam}
 use lib.Dec.{leb, eqb}
 use borrow.Author.Tests.{le-leb, leb-true, eqb-true}
@@ -12,16 +12,13 @@ use Rattle.numbers.specs.Bytes.{bytesOf, field}
 use Rattle.numbers.specs.Same.{same}
 use Rattle.numbers.proofs.RoundTrip.{number-back}
 use Rattle.recording.specs.declared.Direction.{Direction}
-use Rattle.recording.specs.declared.Direction.the-variants.{Host, Device, Reset}
-use Rattle.recording.specs.declared.Directed.the-variants.{Known}
 use Rattle.recording.specs.declared.Part.{Part}
 use Rattle.recording.specs.declared.Found.the-variants.{Is}
 use Rattle.recording.specs.declared.Ended.the-variants.{Whole}
-use Rattle.recording.specs.declared.Extent.{Extent}
-use Rattle.recording.specs.Format.{mark, headLength, directionNumber, directedOf, lengthAllowed, entry, Record, host, device, reset, directionOf, payload, entryOf, written, Formed, AllFormed}
-use Rattle.recording.specs.Recording.{directionAt, countAt, partAt, foundAt, bytesIn, recordBy, recordsFrom, recordsOf, stopFrom, readable, endedBy, extentOf}
+use Rattle.recording.specs.Format.{mark, headLength, directionNumber, directedOf, lengthAllowed, entry, Record, host, device, reset, directionOf, payload, entryOf, written, AllFormed}
+use Rattle.recording.specs.Recording.{directionAt, countAt, foundAt, bytesIn, recordBy, recordsFrom, recordsOf, stopFrom, readable, endedBy, extentOf}
 use Rattle.recording.proofs.Laws.{directed-back, bytes-there, direction-known, found-end}
-use Rattle.recording.proofs.Reading.{Over, records-next, records-over, stop-next, stop-over, whole-ends, extent-is}
+use Rattle.recording.proofs.Reading.{Over, records-next, records-over, stop-next, stop-over, whole-ends}
 
 pub entry-length : (direction : ℕ) (bytes : List ℕ) → length (entry direction bytes) ≡ headLength + length bytes
 unfolding entry bytesOf

@@ -3,6 +3,7 @@
 mod common;
 
 use common::{awake, blank, packet, range, WAKE};
+use indraveck::recording::{read, Direction, Found, Record, Unreadable};
 use indraveck::{Device, Profile};
 
 /// The rows of the first table behind a statement, without its two heading lines, as cells.
@@ -197,5 +198,38 @@ fn rates_have_the_settings_as_written() {
             }
             other => panic!("no answer: {other}"),
         }
+    }
+}
+
+#[test]
+fn records_are_read_as_written() {
+    let faults = [
+        ("bad mark", Unreadable::BadMark),
+        ("bad direction", Unreadable::BadDirection),
+        ("bad length", Unreadable::BadLength),
+        ("cut short", Unreadable::CutShort),
+    ];
+    let directions = [
+        ("host", Direction::Host),
+        ("device", Direction::Device),
+        ("reset", Direction::Reset),
+    ];
+    let rows = table("16.6");
+    assert_eq!(rows.len(), 19);
+    for row in rows {
+        let recording = bytes(&row[0]);
+        let expected = match row[1].split_once(", ") {
+            Some((word, places)) => {
+                let (_, direction) = *directions.iter().find(|known| known.0 == word).unwrap();
+                let (from, to) = places.split_once(" to ").unwrap();
+                let (from, next) = (number(from) as usize, number(to) as usize);
+                let bytes = &recording[from..next];
+                let record = Record { direction, bytes };
+                Ok(Found::Record { record, next })
+            }
+            None if row[1] == "end" => Ok(Found::End),
+            None => Err(faults.iter().find(|known| known.0 == row[1]).unwrap().1),
+        };
+        assert_eq!(read(&recording, 0), expected, "{row:?}");
     }
 }
