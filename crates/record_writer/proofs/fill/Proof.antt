@@ -1,6 +1,6 @@
 -- `record_writer::fill` meets its contract. The stores are those of the head, one after the other, and the copy fills what is left. Assumes nothing.
 use native.Mathlib.Omega.{arith}
-use lib.ListN.{length, set, length-set}
+use lib.ListN.{length, length-set}
 use borrow.Author.Needs.{needs}
 use Rattle.record_writer.proofs.Laws.{start-length, filled, as-long}
 use Rattle.numbers.proofs.Copied.{part-count}
@@ -8,12 +8,10 @@ use Rattle.record_writer.proofs.fill.Statement.{statement}
 use Rattle.record_writer.proofs.fill.Tie as tie
 
 slice-write-part-2 : tie.Need-slice-write-part-2
-slice-write-part-2 c = omega (arith, length-set (c .before .before .args .part .now) 0 0x52, c .before .before .pre .1)
+slice-write-part-2 c = simp length-set (omega (arith, c .before .before .pre .1))
 
 slice-write-part-3 : tie.Need-slice-write-part-3
-slice-write-part-3 c =
-    let a = c .before .before .args in
-    omega (arith, length-set (a .part .now) 0 0x52, length-set (set (a .part .now) 0 0x52) 1 0x4C, c .before .before .pre .1)
+slice-write-part-3 c = simp length-set (omega (arith, c .before .before .pre .1))
 
 sub-copy : tie.Need-sub-copy
 sub-copy c =
