@@ -29,6 +29,7 @@ on-disk =
           };
       record-back = writer.written-reads;
       records-back = λ rs before to after all. (writer.all-read-back rs before to after all, writer.all-read-whole rs before to after all);
+      records-written = writer.writes-up;
       bytes-back = writer.same-again;
       part-back = λ s all. (records-formed s, writes-back s all);
       same = writer.accepts-same;

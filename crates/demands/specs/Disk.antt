@@ -2,7 +2,7 @@
 use mathlib.Core.List.{List, _++_}
 use mathlib.Core.Logic.{_↔_}
 use mathlib.Core.Path.{_≡_}
-use Prim.Native.Nat.{ℕ, _+_}
+use Prim.Native.Nat.{ℕ, _+_, _≤_}
 use lib.ListN.{length, take, drop}
 use Rattle.numbers.specs.Bytes.{AllBytes}
 use Rattle.verdict.specs.Check.{NoneApplies, IsFirst}
@@ -16,7 +16,7 @@ use Rattle.recording.specs.Format.{headLength, rules, entry, Record, AllFormed,
 use Rattle.recording.specs.Recording.{readChecks, foundAt, HasAt, bytesIn, recordsOf, readable, extentOf}
 use Rattle.record_writer.specs.declared.Written.{Written}
 use Rattle.record_writer.specs.declared.Written.the-variants.{Behind, Refused as NotWritten}
-use Rattle.record_writer.specs.Writing.{writerChecks, Wrote, ReadsAt, WroteAll}
+use Rattle.record_writer.specs.Writing.{writerChecks, Wrote, ReadsAt, WroteAll, WritesUp}
 
 -- reading one record, at any place of any bytes
 pub record Reads : Type 0 where
@@ -60,6 +60,9 @@ pub record OnDisk : Type 0 where
   -- and records written one behind the other, to the end
   pub records-back : (rs : List Record) (before : List ℕ) (to : ℕ) (after : List ℕ) → WroteAll rs 0 before to after
       → (recordsOf (take to after) ≡ rs) × (extentOf (take to after) ≡ record { count = to; ended = Whole })
+  -- and wherever there is room for them, records that have as many bytes as they may are written
+  pub records-written : (rs : List Record) → AllFormed rs → (at : ℕ) (before : List ℕ) → at + length (written rs) ≤ length before
+      → WritesUp rs at before (at + length (written rs))
   -- what is read writes back: a recording that reads to its end is the same bytes, and of any other the part that can be read
   pub bytes-back : (s : List ℕ) → AllBytes s → extentOf s .ended ≡ Whole → (before : List ℕ) (to : ℕ) (after : List ℕ)
       → WroteAll (recordsOf s) 0 before to after → take to after ≡ s

@@ -1,14 +1,14 @@
 -- What writing leaves, exactly; what was written reads back, one record and many; reader and writer accept the same. Assumes nothing.
-use mathlib.Core.Bool.{true, not}
-use mathlib.Core.List.{List, _++_, append-assoc, append-nil}
+use mathlib.Core.Bool.{true, false, not}
+use mathlib.Core.List.{List, [], _∷_, _++_, append-assoc, append-nil}
 use mathlib.Core.Logic.{_↔_}
 use mathlib.Core.Option.{Option, none, some}
-use mathlib.Core.Path.{_≡_, refl, sym, ap, _∙_}
+use mathlib.Core.Path.{_≡_, refl, sym, ap, subst, _∙_}
 use Prim.Native.Nat.{ℕ, _+_, _-_, _≤_}
 use native.Mathlib.Omega.{arith}
-use lib.ListN.{length, take, drop, length-append}
+use lib.ListN.{length, take, drop, length-append, length-drop}
 use lib.Seq.{length-take-le, take-length, take-at, drop-at}
-use borrow.Author.Tests.{leb-true, not-false}
+use borrow.Author.Tests.{leb-true, le-leb, not-false}
 use Rattle.numbers.specs.Bytes.{AllBytes}
 use Rattle.verdict.specs.Check.{Check, firstFault, NoneApplies, IsFirst}
 use Rattle.verdict.proofs.FirstFault.{clear, grants, first, first-found}
@@ -20,7 +20,7 @@ use Rattle.recording.specs.declared.Fault.{Fault}
 use Rattle.recording.specs.declared.Fault.the-variants.{BadMark, BadDirection, BadLength, CutShort, NoRoom}
 use Rattle.recording.specs.declared.Part.{Part}
 use Rattle.recording.specs.declared.Ended.the-variants.{Whole}
-use Rattle.recording.specs.Format.{headLength, directionNumber, directedOf, isKnown, lengthAllowed, rules, entry, Record, directionOf, payload, entryOf, written, AllFormed}
+use Rattle.recording.specs.Format.{headLength, directionNumber, directedOf, isKnown, lengthAllowed, rules, entry, Record, directionOf, payload, entryOf, written, Formed, AllFormed}
 use Rattle.recording.specs.Recording.{directionAt, countAt, HasAt, recordsOf, extentOf}
 use Rattle.recording.proofs.Laws.{directed-number, directed-back}
 use Rattle.recording.proofs.Written.{entry-length, entry-found, entry-bytes, reads-back, reads-whole}
@@ -28,7 +28,7 @@ use Rattle.recording.proofs.Exactly.{record-tells, AllGive, gives-only}
 use Rattle.recording.proofs.Back.{read-allowed, read-entry, entry-read, entry-read-bytes, whole-back}
 use Rattle.record_writer.specs.declared.Written.{Written}
 use Rattle.record_writer.specs.declared.Written.the-variants.{Behind, Refused}
-use Rattle.record_writer.specs.Writing.{writerChecks, writtenBy, leftBy, Wrote, ReadsAt, WroteAll, none-written, one-written}
+use Rattle.record_writer.specs.Writing.{writerChecks, writtenBy, leftBy, writtenOf, leftOf, Wrote, ReadsAt, WroteAll, none-written, one-written, WritesUp}
 
 -- no second outcome meets the promise
 pub wrote-once : {direction at : ℕ} {bytes before after after′ : List ℕ} {r r′ : Written} → Wrote direction at bytes before after r
@@ -107,6 +107,13 @@ module _ (direction at : ℕ) (bytes before after : List ℕ) (r : Written) (w :
         ap (take n) (left ∙ sym (append-assoc (take at before) (entry direction bytes) (drop n before)))
         ∙ take-at (take at before ++ entry direction bytes) (drop n before) n record-end
 
+    pub length-kept : length after ≡ length before
+    length-kept =
+        let h : at + headLength + length bytes ≤ length before = has-room in
+        ap length (left ∙ sym (append-assoc (take at before) (entry direction bytes) (drop n before)))
+        ∙ length-append (take at before ++ entry direction bytes) (drop n before)
+        ∙ omega (arith, record-end, length-drop n before, place-behind)
+
     -- it reads back
     pub written-reads : ReadsAt after at direction bytes n
     written-reads = known-is (directedOf direction) direction-known (ReadsAt after at direction bytes n) by
@@ -166,6 +173,37 @@ all-place _ _ _ _ _ (one-written r rs at next to before between after w more) =
     let rest : to ≡ next + length (written rs) = all-place rs next between to after more in
     let here : next ≡ at + headLength + length (payload r) = place-behind direction at (payload r) before between (Behind next) w next refl in
     omega (arith, length-append (entryOf r) (written rs), entry-length direction (payload r))
+
+-- records that are formed are written wherever there is room for them
+known-direction : (d : Direction) → not (isKnown (directedOf (directionNumber d))) ≡ false
+known-direction d = ap (λ (x : Directed). not (isKnown x)) (directed-back d)
+
+none-applies : (r : Record) → Formed r → (at : ℕ) (before : List ℕ) → at + headLength + length (payload r) ≤ length before
+    → NoneApplies (writerChecks (directionNumber (directionOf r)) (length (payload r)) at (length before))
+unfolding NoneApplies writerChecks
+none-applies r formed at before room =
+    (known-direction (directionOf r), (ap not formed, (ap not (le-leb (at + headLength + length (payload r)) (length before) room), tt)))
+
+pub writes-up : (rs : List Record) → AllFormed rs → (at : ℕ) (before : List ℕ) → at + length (written rs) ≤ length before
+    → WritesUp rs at before (at + length (written rs))
+unfolding AllFormed written
+writes-up [] formed at before room =
+    let z : at ≡ at + 0 = omega arith in
+    record { after = before; all = subst (λ (to : ℕ). WroteAll [] at before to before) z (none-written at before) }
+writes-up (r ∷ rs) formed at before room =
+    let direction : ℕ = directionNumber (directionOf r) in
+    let bytes = payload r in
+    let long = length-append (entryOf r) (written rs) in
+    let few = entry-length direction bytes in
+    let next : ℕ = at + headLength + length bytes in
+    let between = leftOf direction at bytes before in
+    let free = none-applies r (formed .0) at before (omega arith) in
+    let answer : Behind next ≡ writtenOf direction at bytes before = ap (λ (x : Option Fault). writtenBy x next) (sym (grants _ free)) in
+    let wrote : Wrote direction at bytes before between (Behind next) = record { answers = answer; leaves = refl } in
+    let same-length : length between ≡ length before = length-kept direction at bytes before between (Behind next) wrote next refl in
+    let rest = writes-up rs (formed .1) next between (omega arith) in
+    let place : next + length (written rs) ≡ at + length (entryOf r ++ written rs) = omega arith in
+    record { after = rest .after; all = subst (λ (to : ℕ). WroteAll (r ∷ rs) at before to (rest .after)) place (one-written r rs at next _ before between (rest .after) wrote (rest .all)) }
 
 -- from the front on they read back, to the end
 module _ (rs : List Record) (before : List ℕ) (to : ℕ) (after : List ℕ) (all : WroteAll rs 0 before to after) where

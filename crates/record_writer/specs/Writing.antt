@@ -58,3 +58,8 @@ pub data WroteAll : List Record → ℕ → List ℕ → ℕ → List ℕ → Ty
   one-written : (r : Record) (rs : List Record) (at next to : ℕ) (before between after : List ℕ)
       → Wrote (directionNumber (directionOf r)) at (payload r) before between (Behind next) → WroteAll rs next between to after
       → WroteAll (r ∷ rs) at before to after
+
+-- records that calls do write from a place on, up to another
+pub record WritesUp (rs : List Record) (at : ℕ) (before : List ℕ) (to : ℕ) : Type 0 where
+  pub after : List ℕ
+  pub all : WroteAll rs at before to after

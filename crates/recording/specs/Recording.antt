@@ -23,7 +23,7 @@ use Rattle.recording.specs.declared.Ended.the-variants.{Not, Whole, By}
 use Rattle.recording.specs.declared.Extent.{Extent}
 use Rattle.recording.specs.Format.{mark, headLength, directionNumber, directedOf, directionCheck, lengthCheck, faultNumber, Record, host, device, reset}
 
--- the fields of the record at a place; one that is not whole is cut short before its value counts
+-- the fields of the record at a place; one that is not whole is cut short before its value counts (proofs/Steady)
 abbrev pub directionAt : List ℕ → ℕ → ℕ
 directionAt recording at = getD recording (at + 2) 0
 
@@ -53,7 +53,7 @@ readChecks recording at =
     ∷ directionCheck (directionAt recording at)
     ∷ lengthChecks recording at (directionAt recording at)
 
--- a record to which no check applies has a known direction
+-- a record to which no check applies has a known direction (proofs/Exactly, `tells`)
 abbrev pub foundBy : Option Fault → Directed → Part → Found
 foundBy (some fault) direction part = Refused fault
 foundBy none (Known direction) part = Is direction part
@@ -78,6 +78,7 @@ foundNumber (Refused fault) = faultNumber fault
 abbrev pub HasAt : List ℕ → ℕ → List ℕ → Type 0
 HasAt recording at bytes = take (length bytes) (drop at recording) ≡ bytes
 
+-- and in a part
 abbrev pub bytesIn : Part → List ℕ → List ℕ
 bytesIn part recording = take (part .to - part .from) (drop (part .from) recording)
 
