@@ -23,7 +23,7 @@ fn two_at(bytes: &[u8], at: usize) -> u16
 }
 
 // The area in 17 bytes of its own.
-fn area_of(part: &[u8]) -> Area
+pub fn area_of(part: &[u8]) -> Area
     ensures { λ r. ⌜ r ≡ areaAt (now (part .entry)) 0 ⌝ }
 {
     Area {

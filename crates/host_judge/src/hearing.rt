@@ -1,0 +1,249 @@
+// A reply byte by byte: what the judge knows behind each.
+ghost use mathlib.Core.Path.{_≡_};
+ghost use Prim.Native.Nat.{_+_, _%_, _≤_};
+ghost use lib.ListN.{length};
+ghost use Rattle.host_judge.specs.Reply.{isUnanswered, grants, judgedBy};
+ghost use Rattle.host_judge.specs.Judge.{lengthIn, dataEnd, withCount, isKept, grown, begun, advanced, finished, heardByte, placeIn};
+ghost use Rattle.host_judge.specs.Runs.{runOf, runAdded, HeardBytes};
+use crate::Due;
+use crate::Judge;
+use crate::Judgement;
+use crate::Reply;
+use crate::due;
+use host_request::Request;
+use packet::Kind;
+
+// The judge behind some bytes, and how many of them were taken.
+pub(crate) struct Hearing {
+    pub(crate) judge: Judge,
+    pub(crate) count: usize,
+}
+
+// What the length bytes say.
+fn length(reply: Reply) -> u32
+    ensures { λ r. ⌜ (r ≡ lengthIn reply) × (r ≤ 65535) ⌝ }
+{
+    reply.high as u32 * 256 + reply.low as u32
+}
+
+// The place in the reply behind its data.
+pub(crate) fn data_end(reply: Reply) -> usize
+    ensures { λ r. ⌜ (r ≡ dataEnd reply) × (r ≤ 65538) ⌝ }
+{
+    let n = length(reply) as usize;
+    if n == 0 { 4 } else { n + 3 }
+}
+
+// Where a place in a reply, of which `count` bytes came, stands among the last `taken` of them.
+pub(crate) fn place(taken: usize, count: usize, at: usize) -> usize
+    ensures { λ r. ⌜ r ≡ placeIn taken count at ⌝ }
+{
+    if count < at {
+        return taken;
+    }
+    taken - numbers::lower(taken, count - at)
+}
+
+fn is_unanswered(judgement: Judgement) -> bool
+    ensures { λ r. ⌜ r ≡ isUnanswered judgement ⌝ }
+{
+    match judgement {
+        Judgement::Unanswered => true,
+        Judgement::Passed => false,
+        Judgement::Refused(_) => false,
+        Judgement::WrongReply => false,
+    }
+}
+
+// A reply of so many bytes, all else as it is.
+fn with_count(reply: Reply, count: u32) -> Reply
+    ensures { λ r. ⌜ r ≡ withCount count reply ⌝ }
+{
+    let mut y = reply;
+    y.count = count;
+    y
+}
+
+// Whether the next byte is one of the first seventeen of the data.
+fn is_kept(reply: Reply) -> bool
+    ensures { λ r. ⌜ r ≡ isKept reply ⌝ }
+{
+    let at = reply.count as usize;
+    4 <= at && at < numbers::lower(data_end(reply), 21)
+}
+
+// One byte more, of those that SUM counts: it goes where its place says.
+fn grow(reply: Reply, byte: u8) -> Reply
+    requires { ⌜ reply .count ≤ 65538 ⌝ }
+    ensures { λ r. ⌜ r ≡ grown reply byte ⌝ }
+{
+    let mut y = reply;
+    let at = reply.count;
+    if at == 1 {
+        y.high = byte;
+    }
+    if at == 2 {
+        y.low = byte;
+    }
+    if at == 3 {
+        y.res = byte;
+    }
+    if is_kept(reply) {
+        let i = at as usize - 4;
+        y.first[i] = byte;
+    }
+    y.sum = std::num::wrapping_add_u8(reply.sum, byte);
+    y.count = at + 1;
+    y
+}
+
+// Before 81h: every other byte is skipped.
+fn begin_with(judge: Judge, byte: u8) -> Judge
+    ensures { λ r. ⌜ r ≡ begun judge byte ⌝ }
+{
+    if byte != 0x81 {
+        return judge;
+    }
+    let mut j = judge;
+    let reply = judge.reply;
+    let y = with_count(reply, 1);
+    j.reply = y;
+    j
+}
+
+// Between 81h and ETX: a length outside its range decides, at its second byte.
+fn advance(judge: Judge, reply: Reply) -> Judge
+    ensures { λ r. ⌜ r ≡ advanced judge reply ⌝ }
+{
+    let request = judge.request;
+    let judgement = judge.judgement;
+    if reply.count == 3 && !packet::is_permitted(Kind::Data, length(reply) as usize) {
+        return Judge {
+            request,
+            judgement: Judgement::WrongReply,
+            reply,
+        };
+    }
+    Judge {
+        request,
+        judgement,
+        reply,
+    }
+}
+
+// Whether a reply grants a request of this number, to which that is due.
+fn is_grant(due: Due, number: u8, n: usize, res: u8, first: u8) -> bool
+    ensures { λ r. ⌜ r ≡ grants due number n res first ⌝ }
+{
+    match due {
+        Due::Status => n == 2 && res == number && first == 0,
+        Due::Data(count) => n == count + 1 && res == number,
+        Due::Nothing => false,
+    }
+}
+
+// What a whole packet says, by its length, RES and the byte behind RES.
+fn judge_contents(request: Request, n: usize, res: u8, first: u8) -> Judgement
+    ensures { λ r. ⌜ r ≡ judgedBy request n res first ⌝ }
+{
+    let number = host_request::number(request);
+    if is_grant(due(request), number, n, res, first) {
+        return Judgement::Passed;
+    }
+    if n == 2 && res == number + 128 && first != 0 {
+        return Judgement::Refused(first);
+    }
+    Judgement::WrongReply
+}
+
+// ETX: the reply is whole.
+fn finish(judge: Judge, byte: u8) -> Judge
+    ensures { λ r. ⌜ r ≡ finished judge byte ⌝ }
+{
+    let request = judge.request;
+    let reply = judge.reply;
+    let n = length(reply);
+    let y = with_count(reply, n + 5);
+    if byte != 0x03 || reply.sum != 0 {
+        return Judge {
+            request,
+            judgement: Judgement::WrongReply,
+            reply: y,
+        };
+    }
+    let judgement = judge_contents(request, n as usize, reply.res, reply.first[0]);
+    Judge {
+        request,
+        judgement,
+        reply: y,
+    }
+}
+
+// One byte, where nothing is decided yet.
+fn hear_byte(judge: Judge, byte: u8) -> Judge
+    ensures { λ r. ⌜ r ≡ heardByte judge byte ⌝ }
+{
+    let reply = judge.reply;
+    let at = reply.count;
+    if at == 0 {
+        return begin_with(judge, byte);
+    }
+    if 3 <= at && length(reply) + 4 <= at {
+        return finish(judge, byte);
+    }
+    advance(judge, grow(reply, byte))
+}
+
+// How many of the next bytes only count for SUM: those behind the seventeen that are kept, and SUM itself.
+fn run(reply: Reply, most: usize) -> usize
+    ensures { λ r. ⌜ (r ≡ runOf reply most) × (r ≤ most) ⌝ }
+{
+    let at = reply.count as usize;
+    let end = length(reply) as usize + 4;
+    if at < 21 || end <= at {
+        return 0;
+    }
+    numbers::lower(most, end - at)
+}
+
+// Those bytes at once.
+fn add(judge: Judge, part: &[u8]) -> Judge
+    requires { ⌜ judge .reply .count + length (now part) ≤ 65539 ⌝ }
+    ensures { λ r. ⌜ r ≡ runAdded judge (now (part .entry)) ⌝ }
+{
+    let mut y = judge.reply;
+    y.sum = std::num::wrapping_add_u8(y.sum, packet::sum(part));
+    y.count += part.len() as u32;
+    let mut j = judge;
+    j.reply = y;
+    j
+}
+
+// One byte after the other, or a run of them at once, up to the one that decides.
+pub(crate) fn hear(judge: Judge, bytes: &[u8]) -> Hearing
+    ensures { λ r. ⌜ HeardBytes judge (now (bytes .entry)) r ⌝ }
+{
+    let mut j = judge;
+    let mut taken = 0;
+    while taken < bytes.len() {
+        if !is_unanswered(j.judgement) {
+            return Hearing {
+                judge: j,
+                count: taken,
+            };
+        }
+        let n = run(j.reply, bytes.len() - taken);
+        if n == 0 {
+            j = hear_byte(j, bytes[taken]);
+            taken += 1;
+        } else {
+            let end = taken + n;
+            j = add(j, &bytes[taken..end]);
+            taken = end;
+        }
+    }
+    Hearing {
+        judge: j,
+        count: taken,
+    }
+}
