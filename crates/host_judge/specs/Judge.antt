@@ -2,8 +2,7 @@
 use mathlib.Core.Bool.{Bool, true, false, _&&_, not, cond}
 use mathlib.Core.List.{List, [], _∷_}
 use Prim.Native.Nat.{ℕ, _+_, _-_, _%_, min}
-use lib.ListN.{getD, replicate}
-use lib.Seq.{set}
+use lib.ListN.{getD, replicate, set}
 use lib.Dec.{leb, ltb, eqb}
 use Rattle.numbers.specs.Bytes.{number}
 use Rattle.packet.specs.declared.Kind.the-variants.{Data as DataPacket}

@@ -21,14 +21,14 @@ runAdded j bs =
       request = j .request;
       judgement = j .judgement;
       reply =
-        record {
-          count = j .reply .count + length bs;
-          high = j .reply .high;
-          low = j .reply .low;
-          res = j .reply .res;
-          sum = (j .reply .sum + sumOf bs) % 256;
-          first = j .reply .first;
-        };
+          record {
+            count = j .reply .count + length bs;
+            high = j .reply .high;
+            low = j .reply .low;
+            res = j .reply .res;
+            sum = (j .reply .sum + sumOf bs) % 256;
+            first = j .reply .first;
+          };
     }
 
 -- what hearing bytes answers

@@ -9,7 +9,7 @@ use crate::Due;
 use crate::Judge;
 use crate::Judgement;
 use crate::Reply;
-use crate::due;
+use crate::due_to;
 use host_request::Request;
 use packet::Kind;
 
@@ -147,7 +147,7 @@ fn judge_contents(request: Request, n: usize, res: u8, first: u8) -> Judgement
     ensures { λ r. ⌜ r ≡ judgedBy request n res first ⌝ }
 {
     let number = host_request::number(request);
-    if is_grant(due(request), number, n, res, first) {
+    if is_grant(due_to(request), number, n, res, first) {
         return Judgement::Passed;
     }
     if n == 2 && res == number + 128 && first != 0 {
@@ -226,13 +226,15 @@ pub(crate) fn hear(judge: Judge, bytes: &[u8]) -> Hearing
     let mut j = judge;
     let mut taken = 0;
     while taken < bytes.len() {
-        if !is_unanswered(j.judgement) {
+        let judgement = j.judgement;
+        if !is_unanswered(judgement) {
             return Hearing {
                 judge: j,
                 count: taken,
             };
         }
-        let n = run(j.reply, bytes.len() - taken);
+        let reply = j.reply;
+        let n = run(reply, bytes.len() - taken);
         if n == 0 {
             j = hear_byte(j, bytes[taken]);
             taken += 1;

@@ -109,7 +109,7 @@ fn span(sad: u32, ead: u32) -> usize
 }
 
 // What grants the request.
-pub fn due(request: Request) -> Due
+pub fn due_to(request: Request) -> Due
     ensures { λ r. ⌜ r ≡ dueFor request ⌝ }
 {
     match request {
@@ -164,7 +164,7 @@ pub fn take(judge: Judge, bytes: &[u8]) -> Taken
 }
 
 // SCI, where the judge passed a signature.
-pub fn sci(judge: Judge) -> Sci
+pub fn passed_sci(judge: Judge) -> Sci
     ensures { λ r. ⌜ r ≡ sciIn judge ⌝ }
 {
     let judgement = judge.judgement;
@@ -180,7 +180,7 @@ pub fn sci(judge: Judge) -> Sci
 }
 
 // The area, where the judge passed one.
-pub fn area(judge: Judge) -> Fields
+pub fn passed_area(judge: Judge) -> Fields
     ensures { λ r. ⌜ r ≡ areaIn judge ⌝ }
 {
     let judgement = judge.judgement;
