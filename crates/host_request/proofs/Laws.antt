@@ -1,13 +1,13 @@
 -- What the code's tests and the packet that was placed say of building a request. Assumes nothing.
 use mathlib.Core.Bool.{Bool, true, false, not}
-use mathlib.Core.List.{List, [], _∷_}
+use mathlib.Core.List.{List, [], _∷_, _++_}
 use mathlib.Core.Path.{_≡_, refl, sym, ap, subst, _∙_}
 use Prim.Native.Nat.{ℕ, _+_, _≤_}
 use native.Mathlib.Omega.{arith}
-use lib.ListN.{length}
+use lib.ListN.{length, replicate}
 use lib.Dec.{leb, eqb}
 use borrow.Author.Tests.{le-leb, leb-true, eqb-true, not-false}
-use Rattle.numbers.specs.Bytes.{bytesOf}
+use Rattle.numbers.specs.Bytes.{bytesOf, withNumber}
 use Rattle.verdict.specs.Check.{_gives_, firstFault}
 use Rattle.packet.specs.declared.Kind.{Kind}
 use Rattle.packet.specs.declared.Kind.the-variants.{Command, Data}
@@ -15,6 +15,7 @@ use Rattle.packet.specs.Packet.{permitted, frame}
 use Rattle.packet.specs.Frame.{hasRoom, Framed}
 use Rattle.packet.proofs.Laws.{both}
 use Rattle.packet.proofs.Frames.{frame-length}
+use Rattle.packet.proofs.Framed.{answered, none-framed}
 use Rattle.host_request.specs.declared.Request.{Request}
 use Rattle.host_request.specs.declared.Request.the-variants.{Inquiry, Erase, Write, Read, Authenticate, Baud, Signature, Area, WriteData, Next}
 use Rattle.host_request.specs.declared.Unbuilt.the-variants.{WrongAmount, NothingLeft, NoRoom}
@@ -83,3 +84,49 @@ module _ (r : Request) (bytes before : List ℕ) where
             answers = rw (unbuilt-as some-left false e) (rw (room-as false e) at (p .answers));
             leaves = rw (unbuilt-as some-left false e) (rw (room-as false e) at (p .leaves));
           }
+
+-- the frame's length, 0 for none, as what placing answers
+module _ (kind : Kind) (contents before after : List ℕ) (n : ℕ) (f : Framed kind contents before after n) where
+  pub none-placed : n ≡ 0 → Placed kind contents before after (Refused NoRoom)
+  none-placed z = by (hasRoom kind contents before) refl
+    where
+      by : (t : Bool) → hasRoom kind contents before ≡ t → Placed kind contents before after (Refused NoRoom)
+      by true e = absurd (omega (arith, answered kind contents before after n e f))
+      by false e = record { answers = rw e refl; leaves = f .leaves }
+
+  pub some-placed : (n ≡ 0 → ⊥) → Placed kind contents before after (Is n)
+  some-placed s = by (hasRoom kind contents before) refl
+    where
+      by : (t : Bool) → hasRoom kind contents before ≡ t → Placed kind contents before after (Is n)
+      by true e = record { answers = rw e (ap Is (answered kind contents before after n e f)); leaves = f .leaves }
+      by false e = absurd (s (none-framed kind contents before after n e f .1))
+
+-- numbers stored one after the other into an array of zeros
+pub one-stored : (info : List ℕ) (n : ℕ) → info ≡ withNumber 4 n 0 (replicate 4 0) → info ≡ bytesOf 4 n
+unfolding withNumber bytesOf
+one-stored info n e = e
+
+pub two-stored : (first both : List ℕ) (m n : ℕ) → first ≡ withNumber 4 m 0 (replicate 8 0) → both ≡ withNumber 4 n 4 first → both ≡ bytesOf 4 m ++ bytesOf 4 n
+unfolding withNumber bytesOf
+two-stored first both m n e f = f ∙ ap (withNumber 4 n 4) e
+
+-- placed by other names for the same bytes
+pub placed-with : {kind : Kind} {code : ℕ} {info info′ before after : List ℕ} {x : Built} → info ≡ info′ → Placed kind (code ∷ info) before after x
+    → Placed kind (code ∷ info′) before after x
+placed-with {kind} {code} {info} {info′} {before} {after} {x} e p = subst (λ (l : List ℕ). Placed kind (code ∷ l) before after x) e p
+
+-- no bytes are lent
+pub nothing-lent : (bytes : List ℕ) → eqb (length bytes) 0 ≡ true → bytes ≡ []
+nothing-lent [] e = refl
+nothing-lent (b ∷ bytes) e = absurd (omega (arith, eqb-true (length (b ∷ bytes)) 0 e))
+
+-- an arm of the code: it knows which request it has, and its number and information are placed
+pub arm-builds : {r v : Request} {bytes info before after : List ℕ} {x : Built} {code : ℕ} {lent over : Bool}
+    → r ≡ v → lent ≡ enclosable r (length bytes) → not lent ≡ false → over ≡ nothingLeft r → over ≡ false → code ≡ numberFor r
+    → (enclosable v (length bytes) ≡ true → info ≡ informationFor v bytes) → Placed (kindFor v) (code ∷ info) before after x
+    → Builds r bytes before after x
+arm-builds {r} {v} {bytes} {info} {before} {after} {x} {code} e t lent o left number behind p =
+    let enclosed : enclosable v (length bytes) ≡ true = rw (← e, ← t) (not-false _ lent) in
+    let more : nothingLeft v ≡ false = rw (← e, ← o) left in
+    let named : code ≡ numberFor v = rw (← e) number in
+    rw e (placed-builds v bytes before enclosed more after x (rw (← named, ← behind enclosed) p))

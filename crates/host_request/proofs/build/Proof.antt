@@ -1,4 +1,8 @@
+use Rattle.host_request.proofs.Laws.{amount-refused, over-refused, nothing-lent, arm-builds}
+use borrow.Author.Tests.{not-true, not-false}
+use mathlib.Core.Path.{refl, sym, _∙_}
 use borrow.Author.Needs.{needs}
+use Rattle.host_request.specs.Request.{enclosable}
 use Rattle.host_request.proofs.build.Statement.{statement}
 use Rattle.host_request.proofs.build.Tie as tie
 use Rattle.host_request.proofs.build.Reads as reads
@@ -17,7 +21,7 @@ is-enclosable-requires c κs = search needs
 
 -- src/lib.rt:163:9
 returns : tie.Need-returns
-returns c = ?
+returns c = amount-refused (c .before .before .before .before .args .request) (c .before .before .before .before .args .bytes .now) (c .before .before .before .before .args .buffer .now) (sym (c .before .is-enclosable .ensures) ∙ not-true _ (c .if1 .taken))
 
 -- src/lib.rt:165:8
 is-over-requires : tie.Need-is-over-requires
@@ -25,7 +29,7 @@ is-over-requires c κs = search needs
 
 -- src/lib.rt:166:9
 returns-2 : tie.Need-returns-2
-returns-2 c = ?
+returns-2 c = over-refused (c .before .before .before .before .before .before .args .request) (c .before .before .before .before .before .before .args .bytes .now) (c .before .before .before .before .before .before .args .buffer .now) (sym (c .before .before .before .is-enclosable .ensures) ∙ not-false _ (c .before .before .if1 .left)) (sym (c .before .is-over .ensures) ∙ c .if2 .taken)
 
 -- src/lib.rt:168:9
 number-requires : tie.Need-number-requires
@@ -117,7 +121,8 @@ same-length c = search needs
 
 -- src/lib.rt:159:1
 returns-3 : tie.Need-returns-3
-returns-3 c = ?
+unfolding enclosable
+returns-3 c = arm-builds (c .before .before .before .before .enum-told .given .1) (c .before .before .before .before .before .before .before .before .before .before .is-enclosable .ensures) (c .before .before .before .before .before .before .before .before .before .if1 .left) (c .before .before .before .before .before .before .before .before .is-over .ensures) (c .before .before .before .before .before .before .before .if2 .left) (c .before .before .before .before .before .before .number .ensures) (nothing-lent (c .before .before .before .before .before .before .before .before .before .before .before .before .before .args .bytes .now)) (c .before .before .put .ensures)
 
 -- src/lib.rt:159:1
 same-length-2 : tie.Need-same-length-2
@@ -125,7 +130,7 @@ same-length-2 c = search needs
 
 -- src/lib.rt:159:1
 returns-4 : tie.Need-returns-4
-returns-4 c = ?
+returns-4 c = arm-builds (c .before .before .before .before .before .request .given .1) (c .before .before .before .before .before .before .before .before .before .before .before .is-enclosable .ensures) (c .before .before .before .before .before .before .before .before .before .before .if1 .left) (c .before .before .before .before .before .before .before .before .before .is-over .ensures) (c .before .before .before .before .before .before .before .before .if2 .left) (c .before .before .before .before .before .before .before .number .ensures) (λ lent. refl) (c .before .before .put-range .ensures)
 
 -- src/lib.rt:159:1
 same-length-3 : tie.Need-same-length-3
@@ -133,7 +138,7 @@ same-length-3 c = search needs
 
 -- src/lib.rt:159:1
 returns-5 : tie.Need-returns-5
-returns-5 c = ?
+returns-5 c = arm-builds (c .before .before .before .before .before .request2 .given .1) (c .before .before .before .before .before .before .before .before .before .before .before .is-enclosable .ensures) (c .before .before .before .before .before .before .before .before .before .before .if1 .left) (c .before .before .before .before .before .before .before .before .before .is-over .ensures) (c .before .before .before .before .before .before .before .before .if2 .left) (c .before .before .before .before .before .before .before .number .ensures) (λ lent. refl) (c .before .before .put-range2 .ensures)
 
 -- src/lib.rt:159:1
 same-length-4 : tie.Need-same-length-4
@@ -141,7 +146,7 @@ same-length-4 c = search needs
 
 -- src/lib.rt:159:1
 returns-6 : tie.Need-returns-6
-returns-6 c = ?
+returns-6 c = arm-builds (c .before .before .before .before .before .request3 .given .1) (c .before .before .before .before .before .before .before .before .before .before .before .is-enclosable .ensures) (c .before .before .before .before .before .before .before .before .before .before .if1 .left) (c .before .before .before .before .before .before .before .before .before .is-over .ensures) (c .before .before .before .before .before .before .before .before .if2 .left) (c .before .before .before .before .before .before .before .number .ensures) (λ lent. refl) (c .before .before .put-range3 .ensures)
 
 -- src/lib.rt:159:1
 same-length-5 : tie.Need-same-length-5
@@ -149,7 +154,7 @@ same-length-5 c = search needs
 
 -- src/lib.rt:159:1
 returns-7 : tie.Need-returns-7
-returns-7 c = ?
+returns-7 c = arm-builds (c .before .before .before .before .enum-told2 .given .1) (c .before .before .before .before .before .before .before .before .before .before .is-enclosable .ensures) (c .before .before .before .before .before .before .before .before .before .if1 .left) (c .before .before .before .before .before .before .before .before .is-over .ensures) (c .before .before .before .before .before .before .before .if2 .left) (c .before .before .before .before .before .before .number .ensures) (λ lent. refl) (c .before .before .put2 .ensures)
 
 -- src/lib.rt:159:1
 same-length-6 : tie.Need-same-length-6
@@ -157,7 +162,7 @@ same-length-6 c = search needs
 
 -- src/lib.rt:159:1
 returns-8 : tie.Need-returns-8
-returns-8 c = ?
+returns-8 c = arm-builds (c .before .before .before .before .before .request4 .given .1) (c .before .before .before .before .before .before .before .before .before .before .before .is-enclosable .ensures) (c .before .before .before .before .before .before .before .before .before .before .if1 .left) (c .before .before .before .before .before .before .before .before .before .is-over .ensures) (c .before .before .before .before .before .before .before .before .if2 .left) (c .before .before .before .before .before .before .before .number .ensures) (λ lent. refl) (c .before .before .put-number .ensures)
 
 -- src/lib.rt:159:1
 same-length-7 : tie.Need-same-length-7
@@ -165,7 +170,8 @@ same-length-7 c = search needs
 
 -- src/lib.rt:159:1
 returns-9 : tie.Need-returns-9
-returns-9 c = ?
+unfolding enclosable
+returns-9 c = arm-builds (c .before .before .before .before .enum-told3 .given .1) (c .before .before .before .before .before .before .before .before .before .before .is-enclosable .ensures) (c .before .before .before .before .before .before .before .before .before .if1 .left) (c .before .before .before .before .before .before .before .before .is-over .ensures) (c .before .before .before .before .before .before .before .if2 .left) (c .before .before .before .before .before .before .number .ensures) (nothing-lent (c .before .before .before .before .before .before .before .before .before .before .before .before .before .args .bytes .now)) (c .before .before .put3 .ensures)
 
 -- src/lib.rt:159:1
 same-length-8 : tie.Need-same-length-8
@@ -173,7 +179,7 @@ same-length-8 c = search needs
 
 -- src/lib.rt:159:1
 returns-10 : tie.Need-returns-10
-returns-10 c = ?
+returns-10 c = arm-builds (c .before .before .before .before .before .request5 .given .1) (c .before .before .before .before .before .before .before .before .before .before .before .is-enclosable .ensures) (c .before .before .before .before .before .before .before .before .before .before .if1 .left) (c .before .before .before .before .before .before .before .before .before .is-over .ensures) (c .before .before .before .before .before .before .before .before .if2 .left) (c .before .before .before .before .before .before .before .number .ensures) (λ lent. refl) (c .before .before .put-byte .ensures)
 
 -- src/lib.rt:159:1
 same-length-9 : tie.Need-same-length-9
@@ -181,7 +187,7 @@ same-length-9 c = search needs
 
 -- src/lib.rt:159:1
 returns-11 : tie.Need-returns-11
-returns-11 c = ?
+returns-11 c = arm-builds (c .before .before .before .before .enum-told4 .given .1) (c .before .before .before .before .before .before .before .before .before .before .is-enclosable .ensures) (c .before .before .before .before .before .before .before .before .before .if1 .left) (c .before .before .before .before .before .before .before .before .is-over .ensures) (c .before .before .before .before .before .before .before .if2 .left) (c .before .before .before .before .before .before .number .ensures) (λ lent. refl) (c .before .before .put4 .ensures)
 
 -- src/lib.rt:159:1
 same-length-10 : tie.Need-same-length-10
@@ -189,7 +195,7 @@ same-length-10 c = search needs
 
 -- src/lib.rt:159:1
 returns-12 : tie.Need-returns-12
-returns-12 c = ?
+returns-12 c = arm-builds (c .before .before .before .before .enum-told5 .given .1) (c .before .before .before .before .before .before .before .before .before .before .is-enclosable .ensures) (c .before .before .before .before .before .before .before .before .before .if1 .left) (c .before .before .before .before .before .before .before .before .is-over .ensures) (c .before .before .before .before .before .before .before .if2 .left) (c .before .before .before .before .before .before .number .ensures) (λ lent. refl) (c .before .before .put-byte2 .ensures)
 
 pub build-spec : {M : Type 1} → statement M
 build-spec =

@@ -1,3 +1,4 @@
+use mathlib.Core.Path.{refl}
 use borrow.Author.Needs.{needs}
 use Rattle.host_request.proofs.is_over.Statement.{statement}
 use Rattle.host_request.proofs.is_over.Tie as tie
@@ -82,7 +83,7 @@ returns-9 c = search needs
 
 -- src/lib.rt:102:1
 returns-10 : tie.Need-returns-10
-returns-10 c = ?
+returns-10 c = rw (c .before .request .given .1) refl
 
 pub is-over-spec : {M : Type 1} → statement M
 is-over-spec =

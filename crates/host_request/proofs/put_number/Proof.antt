@@ -1,3 +1,4 @@
+use Rattle.host_request.proofs.Laws.{placed-with, one-stored}
 use borrow.Author.Needs.{needs}
 use Rattle.host_request.proofs.put_number.Statement.{statement}
 use Rattle.host_request.proofs.put_number.Tie as tie
@@ -28,7 +29,7 @@ same-length c = search needs
 
 -- src/lib.rt:141:1
 returns : tie.Need-returns
-returns c = ?
+returns c = placed-with (one-stored _ (c .before .before .before .before .before .before .before .before .before .args .n) (c .before .before .before .before .before .before .write-four .ensures .leaves)) (c .before .before .put .ensures)
 
 pub put-number-spec : {M : Type 1} → statement M
 put-number-spec =

@@ -1,3 +1,4 @@
+use Rattle.host_request.proofs.Laws.{placed-with, two-stored}
 use borrow.Author.Needs.{needs}
 use Rattle.host_request.proofs.put_range.Statement.{statement}
 use Rattle.host_request.proofs.put_range.Tie as tie
@@ -36,7 +37,7 @@ same-length c = search needs
 
 -- src/lib.rt:131:1
 returns : tie.Need-returns
-returns c = ?
+returns c = placed-with (two-stored _ _ (c .before .before .before .before .before .before .before .before .before .before .before .before .args .sad) (c .before .before .before .before .before .before .before .before .before .before .before .before .args .ead) (c .before .before .before .before .before .before .before .before .before .write-four .ensures .leaves) (c .before .before .before .before .before .before .write-four2 .ensures .leaves)) (c .before .before .put .ensures)
 
 pub put-range-spec : {M : Type 1} → statement M
 put-range-spec =
