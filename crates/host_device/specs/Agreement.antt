@@ -4,7 +4,6 @@ use mathlib.Core.Option.{none}
 use mathlib.Core.Path.{_≡_}
 use Prim.Native.Nat.{ℕ}
 use lib.ListN.{length}
-use Rattle.numbers.specs.Bytes.{AllBytes}
 use Rattle.verdict.specs.declared.Verdict.{Verdict}
 use Rattle.verdict.specs.declared.Verdict.the-variants.{Granted, Refused}
 use Rattle.verdict.specs.Check.{firstFault, verdictOf}
@@ -27,7 +26,7 @@ use Rattle.device_steps.specs.Feed.{Delivery, feedOf}
 use Rattle.device_steps.specs.Fits.{FitMachine}
 use Rattle.host_request.specs.declared.Request.{Request}
 use Rattle.host_request.specs.declared.Request.the-variants.{Inquiry, Erase, Write, Read, Authenticate, Baud, Signature, Area, WriteData, Next}
-use Rattle.host_request.specs.Request.{packetFor, requestChecks}
+use Rattle.host_request.specs.Request.{packetFor, InWidth, requestChecks}
 use Rattle.host_judge.specs.declared.Judgement.{Judgement}
 use Rattle.host_judge.specs.declared.Judgement.the-variants.{Passed, Refused as RefusedWith}
 use Rattle.host_judge.specs.Reply.{judgementOf}
@@ -57,13 +56,14 @@ InStep (Area n) stage = awaitsOf stage ≡ Packet CommandPacket
 InStep WriteData stage = InWrite stage
 InStep (Next left) stage = InRead stage left
 
--- a request that can be built, of numbers and bytes as wide as they are, which is delivered whole to a device that holds nothing and awaits it
+-- a request that can be built, for a device that holds nothing and awaits it
 pub record Sent (p : Profile) (m : Machine) (r : Request) (bytes : List ℕ) : Type 0 where
   pub profile : Accepted p
   pub image : length (m .image) ≡ totalOf (areasOf p)
   pub fits : FitMachine p m
   pub idle : m .held ≡ []
   pub step : InStep r (m .state .stage)
+  pub width : InWidth r
   pub buildable : firstFault (requestChecks r (length bytes)) ≡ none
 
 -- what the device's own checks say of a complete packet, by its stage; setting awaits none

@@ -1,7 +1,7 @@
 -- What a host asks of a device: each request's packet, and what it takes to build it.
 use mathlib.Core.Bool.{Bool, true, false, _&&_, not}
 use mathlib.Core.List.{List, [], _∷_, _++_}
-use Prim.Native.Nat.{ℕ, _+_}
+use Prim.Native.Nat.{ℕ, _<_}
 use lib.ListN.{length}
 use lib.Dec.{leb, eqb}
 use Rattle.numbers.specs.Bytes.{bytesOf}
@@ -67,6 +67,19 @@ contentsFor r bytes = numberFor r ∷ informationFor r bytes
 -- the request's packet
 abbrev pub packetFor : Request → List ℕ → List ℕ
 packetFor r bytes = frame (kindFor r) (contentsFor r bytes)
+
+-- its numbers are no wider than their fields, which the code's types see to
+abbrev pub InWidth : Request → Type 0
+InWidth Inquiry = Unit {0}
+InWidth (Erase s e) = (s < 4294967296) × (e < 4294967296)
+InWidth (Write s e) = (s < 4294967296) × (e < 4294967296)
+InWidth (Read s e) = (s < 4294967296) × (e < 4294967296)
+InWidth Authenticate = Unit {0}
+InWidth (Baud brt) = brt < 4294967296
+InWidth Signature = Unit {0}
+InWidth (Area n) = n < 256
+InWidth WriteData = Unit {0}
+InWidth (Next left) = left < 4294967296
 
 -- so many bytes may be lent beside it: a code has 16, a data packet 1 to 1,024, the others none
 unfoldable pub enclosable : Request → ℕ → Bool
