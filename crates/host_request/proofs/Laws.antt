@@ -1,8 +1,8 @@
 -- What the code's tests and the packet that was placed say of building a request. Assumes nothing.
 use mathlib.Core.Bool.{Bool, true, false, not}
 use mathlib.Core.List.{List, [], _∷_, _++_}
-use mathlib.Core.Path.{_≡_, refl, sym, ap, subst, _∙_}
-use Prim.Native.Nat.{ℕ, _+_, _≤_}
+use mathlib.Core.Path.{_≡_, refl, ap, subst, _∙_}
+use Prim.Native.Nat.{ℕ, _≤_}
 use native.Mathlib.Omega.{arith}
 use lib.ListN.{length, replicate}
 use lib.Dec.{leb, eqb}
@@ -11,7 +11,7 @@ use Rattle.numbers.specs.Bytes.{bytesOf, withNumber}
 use Rattle.verdict.specs.Check.{_gives_, firstFault}
 use Rattle.packet.specs.declared.Kind.{Kind}
 use Rattle.packet.specs.declared.Kind.the-variants.{Command, Data}
-use Rattle.packet.specs.Packet.{permitted, frame}
+use Rattle.packet.specs.Packet.{permitted}
 use Rattle.packet.specs.Frame.{hasRoom, Framed}
 use Rattle.packet.proofs.Laws.{both}
 use Rattle.packet.proofs.Frames.{frame-length}
@@ -31,13 +31,15 @@ few-permitted Command n h k = simp (le-leb 1 n h, le-leb n 256 k)
 few-permitted Data n h k = simp (le-leb 1 n h, le-leb n 1025 (omega arith))
 
 -- so many bytes as may be lent make contents that the kind permits
-pub contents-permitted : (r : Request) (bytes : List ℕ) → enclosable r (length bytes) ≡ true → permitted (kindFor r) (length (contentsFor r bytes)) ≡ true
+pub contents-permitted : (r : Request) (bytes : List ℕ) → enclosable r (length bytes) ≡ true
+    → permitted (kindFor r) (length (contentsFor r bytes)) ≡ true
 unfolding enclosable permitted bytesOf
 contents-permitted Inquiry bytes e = refl
 contents-permitted (Erase sad ead) bytes e = refl
 contents-permitted (Write sad ead) bytes e = refl
 contents-permitted (Read sad ead) bytes e = refl
-contents-permitted Authenticate bytes e = few-permitted Command (length (contentsFor Authenticate bytes)) (omega arith) (omega (arith, eqb-true (length bytes) 16 e))
+contents-permitted Authenticate bytes e =
+    few-permitted Command (length (contentsFor Authenticate bytes)) (omega arith) (omega (arith, eqb-true (length bytes) 16 e))
 contents-permitted (Baud brt) bytes e = refl
 contents-permitted Signature bytes e = refl
 contents-permitted (Area n) bytes e = refl
@@ -77,13 +79,13 @@ module _ (r : Request) (bytes before : List ℕ) where
       where
         by : (t : Bool) → leb (length (packetFor r bytes)) (length before) ≡ t → Builds r bytes before after x
         by true e = record {
-            answers = rw (unbuilt-as some-left true e) (rw (room-as true e, ← frame-length (kindFor r) (contentsFor r bytes)) at (p .answers));
-            leaves = rw (unbuilt-as some-left true e) (rw (room-as true e) at (p .leaves));
-          }
+          answers = rw (unbuilt-as some-left true e) (rw (room-as true e, ← frame-length (kindFor r) (contentsFor r bytes)) at (p .answers));
+          leaves = rw (unbuilt-as some-left true e) (rw (room-as true e) at (p .leaves));
+        }
         by false e = record {
-            answers = rw (unbuilt-as some-left false e) (rw (room-as false e) at (p .answers));
-            leaves = rw (unbuilt-as some-left false e) (rw (room-as false e) at (p .leaves));
-          }
+          answers = rw (unbuilt-as some-left false e) (rw (room-as false e) at (p .answers));
+          leaves = rw (unbuilt-as some-left false e) (rw (room-as false e) at (p .leaves));
+        }
 
 -- the frame's length, 0 for none, as what placing answers
 module _ (kind : Kind) (contents before after : List ℕ) (n : ℕ) (f : Framed kind contents before after n) where
@@ -106,7 +108,8 @@ pub one-stored : (info : List ℕ) (n : ℕ) → info ≡ withNumber 4 n 0 (repl
 unfolding withNumber bytesOf
 one-stored info n e = e
 
-pub two-stored : (first both : List ℕ) (m n : ℕ) → first ≡ withNumber 4 m 0 (replicate 8 0) → both ≡ withNumber 4 n 4 first → both ≡ bytesOf 4 m ++ bytesOf 4 n
+pub two-stored : (first both : List ℕ) (m n : ℕ) → first ≡ withNumber 4 m 0 (replicate 8 0)
+    → both ≡ withNumber 4 n 4 first → both ≡ bytesOf 4 m ++ bytesOf 4 n
 unfolding withNumber bytesOf
 two-stored first both m n e f = f ∙ ap (withNumber 4 n 4) e
 

@@ -1,6 +1,7 @@
 -- What building answers and leaves, exactly: one outcome, the packet at the front, nothing changed behind it, nothing at all where it is refused.
 -- Assumes nothing.
-use mathlib.Core.List.{List, _++_}
+use mathlib.Core.Bool.{not}
+use mathlib.Core.List.{List, [], _∷_, _++_}
 use mathlib.Core.Logic.{_↔_}
 use mathlib.Core.Option.{Option, none, some}
 use mathlib.Core.Path.{_≡_, refl, sym, ap, _∙_}
@@ -8,14 +9,16 @@ use Prim.Native.Nat.{ℕ, _≤_}
 use native.Mathlib.Omega.{arith}
 use lib.ListN.{length, take, drop, length-append, length-drop}
 use lib.Seq.{take-at, drop-at}
-use borrow.Author.Tests.{leb-true, not-false}
-use Rattle.verdict.specs.Check.{Check, firstFault, NoneApplies, IsFirst}
-use Rattle.verdict.proofs.FirstFault.{clear, clear-left, grants, first, first-found}
+use lib.Dec.{leb}
+use borrow.Author.Tests.{leb-true, le-leb, not-false}
+use Rattle.verdict.specs.Check.{Check, _gives_, firstFault, NoneApplies, IsFirst}
+use Rattle.verdict.proofs.FirstFault.{clear, clear-left, fault-right, grants, first, first-found}
 use Rattle.verdict.proofs.OneAnswer.{one-answer}
 use Rattle.packet.specs.Frame.{front}
 use Rattle.packet.proofs.Laws.{impossible}
 use Rattle.host_request.specs.declared.Request.{Request}
 use Rattle.host_request.specs.declared.Unbuilt.{Unbuilt}
+use Rattle.host_request.specs.declared.Unbuilt.the-variants.{NoRoom}
 use Rattle.host_request.specs.declared.Built.{Built}
 use Rattle.host_request.specs.declared.Built.the-variants.{Is, Refused}
 use Rattle.host_request.specs.Request.{packetFor, requestChecks, buildChecks}
@@ -83,3 +86,11 @@ module _ (r : Request) (bytes before after : List ℕ) (x : Built) (b : Builds r
     built-keeps-length =
         ap length fronted ∙ length-append (packetFor r bytes) (drop n before)
         ∙ omega (arith, built-exactly n .0 e .1, length-drop n before, built-room)
+
+  -- a request that can be built is built wherever there is room for its packet
+  pub buildable-built : firstFault (requestChecks r (length bytes)) ≡ none → length (packetFor r bytes) ≤ length before
+      → x ≡ Is (length (packetFor r bytes))
+  unfolding buildChecks firstFault
+  buildable-built buildable room =
+      let fits : firstFault ((not (leb (length (packetFor r bytes)) (length before)) gives NoRoom) ∷ []) ≡ none = rw (le-leb _ _ room) refl in
+      b .answers ∙ ap (λ (o : Option Unbuilt). builtBy o (packetFor r bytes)) (fault-right (requestChecks r (length bytes)) _ buildable ∙ fits)

@@ -2,13 +2,13 @@
 use mathlib.Core.Bool.{true, false, not}
 use mathlib.Core.List.{List, [], _∷_, _++_, append-assoc, append-nil}
 use mathlib.Core.Option.{none}
-use mathlib.Core.Path.{_≡_, refl, sym, ap, subst, _∙_}
-use Prim.Native.Nat.{ℕ, _+_, _-_, _<_, _≤_}
+use mathlib.Core.Path.{_≡_, refl, sym, ap, _∙_}
+use Prim.Native.Nat.{ℕ, _+_, _<_}
 use native.Mathlib.Omega.{arith}
 use lib.ListN.{length, take, drop, getD, length-append}
 use lib.Seq.{take-at, drop-at, drop-drop}
 use borrow.Author.Tests.{eqb-true, not-false}
-use Rattle.numbers.specs.Bytes.{bytesOf, field, AllBytes}
+use Rattle.numbers.specs.Bytes.{bytesOf}
 use Rattle.numbers.proofs.RoundTrip.{bytes-length}
 use Rattle.verdict.specs.Check.{firstFault, NoneApplies}
 use Rattle.verdict.proofs.FirstFault.{clear}
@@ -18,7 +18,7 @@ use Rattle.packet.specs.declared.Progress.the-variants.{Complete}
 use Rattle.packet.specs.Packet.{startOf, permitted, progressOf, sumOf, endsWell, good, contentsOf, lack, counted, frame}
 use Rattle.packet.proofs.Laws.{impossible}
 use Rattle.packet.proofs.Frames.{frame-length, frame-ends-well, frame-complete, frame-good, frame-contents}
-use Rattle.packet_fields.specs.Fields.{comNumber, comOf, codeAt, infoCount, infoOf, fourAt, sadOf, eadOf, brtOf, areaNumberOf, infoLength}
+use Rattle.packet_fields.specs.Fields.{comOf, codeAt, infoCount, infoOf, fourAt, sadOf, eadOf, brtOf, areaNumberOf, infoLength}
 use Rattle.packet_fields.proofs.Laws.{com-back}
 use Rattle.packet_fields.proofs.FieldLaws.{four-back}
 use Rattle.host_request.specs.declared.Request.{Request}
@@ -72,13 +72,14 @@ module _ (r : Request) (bytes : List ℕ) where
       let q = packetFor r bytes in
       let end = lack (counted (contentsFor r bytes)) ∷ 0x03 ∷ [] in
       let long : length (informationFor r bytes) ≡ length before + (4 + length after) =
-      ap length e ∙ length-append before (bytesOf 4 n ++ after) ∙ ap (λ (k : ℕ). length before + k) (length-append (bytesOf 4 n) after ∙ ap (λ (k : ℕ). k + length after) (bytes-length 4 n)) in
+      ap length e ∙ omega (arith, length-append before (bytesOf 4 n ++ after), length-append (bytesOf 4 n) after, bytes-length 4 n) in
       let behind : drop (4 + length before) q ≡ bytesOf 4 n ++ (after ++ end) =
       sym (drop-drop (length before) 4 q)
       ∙ ap (drop (length before)) (packet-behind ∙ ap (λ (l : List ℕ). l ++ end) e ∙ append-assoc before (bytesOf 4 n ++ after) end)
       ∙ drop-at before ((bytesOf 4 n ++ after) ++ end) (length before) refl
       ∙ append-assoc (bytesOf 4 n) after end in
-      four-back n (4 + length before) q (omega (arith, packet-length)) below (ap (take 4) behind ∙ take-at (bytesOf 4 n) (after ++ end) 4 (bytes-length 4 n))
+      four-back n (4 + length before) q (omega (arith, packet-length)) below
+      (ap (take 4) behind ∙ take-at (bytesOf 4 n) (after ++ end) 4 (bytes-length 4 n))
 
   -- SAD and EAD of a request with a range
   module _ (sad ead : ℕ) (range : informationFor r bytes ≡ bytesOf 4 sad ++ bytesOf 4 ead) where
@@ -103,7 +104,8 @@ module _ (r : Request) (bytes : List ℕ) (buildable : firstFault (requestChecks
   permits = contents-permitted r bytes (buildable-lent r (length bytes) buildable)
 
   -- its packet is one whole packet of its kind, with right ETX and SUM
-  pub packet-whole : (progressOf (kindFor r) (packetFor r bytes) ≡ Complete) × (endsWell (packetFor r bytes) ≡ true) × (good (packetFor r bytes) ≡ true)
+  pub packet-whole : (progressOf (kindFor r) (packetFor r bytes) ≡ Complete)
+      × (endsWell (packetFor r bytes) ≡ true) × (good (packetFor r bytes) ≡ true)
   packet-whole = (
     frame-complete (kindFor r) (contentsFor r bytes) permits,
     frame-ends-well (kindFor r) (contentsFor r bytes),
