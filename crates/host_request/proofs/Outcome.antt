@@ -33,7 +33,7 @@ module _ (r : Request) (bytes before after : List ℕ) (x : Built) (b : Builds r
   abbrev checks : List (Check Unbuilt)
   checks = buildChecks r bytes (length before)
 
-  -- refused exactly by the first fault, and then the buffer is as it was
+  -- refused exactly by the first fault
   pub unbuilt-exactly : (why : Unbuilt) → (x ≡ Refused why) ↔ IsFirst checks why
   unbuilt-exactly why = (
     λ e. first checks why (by (firstFault checks) (sym (b .answers) ∙ e)),
@@ -44,6 +44,7 @@ module _ (r : Request) (bytes before after : List ℕ) (x : Built) (b : Builds r
       by none e = impossible (cc)
       by (some other) e = let k : other ≡ why = cc in ap some k
 
+  -- and then the buffer is as it was
   pub unbuilt-leaves : (why : Unbuilt) → x ≡ Refused why → after ≡ before
   unbuilt-leaves why e =
       b .leaves ∙ ap (λ (o : Option Unbuilt). placedBy o (packetFor r bytes) before) (first-found checks why (unbuilt-exactly why .0 e))
@@ -60,28 +61,32 @@ module _ (r : Request) (bytes before after : List ℕ) (x : Built) (b : Builds r
       by (some why) e = impossible (cc)
 
   module _ (n : ℕ) (e : x ≡ Is n) where
-    -- what was built can be built, and has room
+    -- what was built can be built
     pub built-buildable : firstFault (requestChecks r (length bytes)) ≡ none
     unfolding buildChecks
     built-buildable = clear-left (requestChecks r (length bytes)) _ (grants checks (built-exactly n .0 e .0))
 
+    -- its packet had room
     pub built-room : n ≤ length before
     unfolding buildChecks requestChecks NoneApplies
     built-room = rw (built-exactly n .0 e .1) (leb-true _ _ (not-false _ (built-exactly n .0 e .0 .1 .1 .0)))
 
-    -- the packet stands at the front, and what is behind it keeps its values
+    -- the packet, and behind it what stood there
     fronted : after ≡ packetFor r bytes ++ drop n before
     unfolding front
     fronted =
         b .leaves ∙ ap (λ (o : Option Unbuilt). placedBy o (packetFor r bytes) before) (grants checks (built-exactly n .0 e .0))
         ∙ ap (λ (k : ℕ). packetFor r bytes ++ drop k before) (sym (built-exactly n .0 e .1))
 
+    -- the bytes up to the answer are the packet
     pub built-front : take n after ≡ packetFor r bytes
     built-front = ap (take n) fronted ∙ take-at (packetFor r bytes) (drop n before) n (sym (built-exactly n .0 e .1))
 
+    -- those behind it are as they were
     pub built-rest : drop n after ≡ drop n before
     built-rest = ap (drop n) fronted ∙ drop-at (packetFor r bytes) (drop n before) n (sym (built-exactly n .0 e .1))
 
+    -- and there are no more or fewer of them
     pub built-keeps-length : length after ≡ length before
     built-keeps-length =
         ap length fronted ∙ length-append (packetFor r bytes) (drop n before)
