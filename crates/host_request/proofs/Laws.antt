@@ -1,8 +1,8 @@
 -- What the code's tests and the packet that was placed say of building a request. Assumes nothing.
 use mathlib.Core.Bool.{Bool, true, false, not}
 use mathlib.Core.List.{List, [], _∷_, _++_}
-use mathlib.Core.Path.{_≡_, refl, sym, ap, subst, _∙_}
-use Prim.Native.Nat.{ℕ, _+_, _≤_}
+use mathlib.Core.Path.{_≡_, refl, ap, subst, _∙_}
+use Prim.Native.Nat.{ℕ, _≤_}
 use native.Mathlib.Omega.{arith}
 use lib.ListN.{length, replicate}
 use lib.Dec.{leb, eqb}
@@ -11,7 +11,7 @@ use Rattle.numbers.specs.Bytes.{bytesOf, withNumber}
 use Rattle.verdict.specs.Check.{_gives_, firstFault}
 use Rattle.packet.specs.declared.Kind.{Kind}
 use Rattle.packet.specs.declared.Kind.the-variants.{Command, Data}
-use Rattle.packet.specs.Packet.{permitted, frame}
+use Rattle.packet.specs.Packet.{longestOf, permitted}
 use Rattle.packet.specs.Frame.{hasRoom, Framed}
 use Rattle.packet.proofs.Laws.{both}
 use Rattle.packet.proofs.Frames.{frame-length}
@@ -24,26 +24,27 @@ use Rattle.host_request.specs.declared.Built.the-variants.{Is, Refused}
 use Rattle.host_request.specs.Request.{numberFor, kindFor, informationFor, contentsFor, packetFor, enclosable, nothingLeft, requestChecks, buildChecks}
 use Rattle.host_request.specs.Build.{unbuilt, Builds, Placed}
 
--- a kind permits contents that are not longer than a command's
-few-permitted : (kind : Kind) (n : ℕ) → 1 ≤ n → n ≤ 256 → permitted kind n ≡ true
+-- a length within the kind's range is permitted
+within-permitted : (kind : Kind) (n : ℕ) → 1 ≤ n → n ≤ longestOf kind → permitted kind n ≡ true
 unfolding permitted
-few-permitted Command n h k = simp (le-leb 1 n h, le-leb n 256 k)
-few-permitted Data n h k = simp (le-leb 1 n h, le-leb n 1025 (omega arith))
+within-permitted kind n h k = simp (le-leb 1 n h, le-leb n (longestOf kind) k)
 
 -- so many bytes as may be lent make contents that the kind permits
-pub contents-permitted : (r : Request) (bytes : List ℕ) → enclosable r (length bytes) ≡ true → permitted (kindFor r) (length (contentsFor r bytes)) ≡ true
+pub contents-permitted : (r : Request) (bytes : List ℕ) → enclosable r (length bytes) ≡ true
+    → permitted (kindFor r) (length (contentsFor r bytes)) ≡ true
 unfolding enclosable permitted bytesOf
 contents-permitted Inquiry bytes e = refl
 contents-permitted (Erase sad ead) bytes e = refl
 contents-permitted (Write sad ead) bytes e = refl
 contents-permitted (Read sad ead) bytes e = refl
-contents-permitted Authenticate bytes e = few-permitted Command (length (contentsFor Authenticate bytes)) (omega arith) (omega (arith, eqb-true (length bytes) 16 e))
+contents-permitted Authenticate bytes e =
+    within-permitted Command (length (contentsFor Authenticate bytes)) (omega arith) (omega (arith, eqb-true (length bytes) 16 e))
 contents-permitted (Baud brt) bytes e = refl
 contents-permitted Signature bytes e = refl
 contents-permitted (Area n) bytes e = refl
 contents-permitted WriteData bytes e =
     let most = leb-true (length bytes) 1024 (both (leb 1 (length bytes)) (leb (length bytes) 1024) e .1) in
-    simp (le-leb 1 (length (contentsFor WriteData bytes)) (omega arith), le-leb (length (contentsFor WriteData bytes)) 1025 (omega arith))
+    within-permitted Data (length (contentsFor WriteData bytes)) (omega arith) (omega arith)
 contents-permitted (Next left) bytes e = refl
 
 module _ (r : Request) (bytes before : List ℕ) where
@@ -77,16 +78,16 @@ module _ (r : Request) (bytes before : List ℕ) where
       where
         by : (t : Bool) → leb (length (packetFor r bytes)) (length before) ≡ t → Builds r bytes before after x
         by true e = record {
-            answers = rw (unbuilt-as some-left true e) (rw (room-as true e, ← frame-length (kindFor r) (contentsFor r bytes)) at (p .answers));
-            leaves = rw (unbuilt-as some-left true e) (rw (room-as true e) at (p .leaves));
-          }
+          answers = rw (unbuilt-as some-left true e) (rw (room-as true e, ← frame-length (kindFor r) (contentsFor r bytes)) at (p .answers));
+          leaves = rw (unbuilt-as some-left true e) (rw (room-as true e) at (p .leaves));
+        }
         by false e = record {
-            answers = rw (unbuilt-as some-left false e) (rw (room-as false e) at (p .answers));
-            leaves = rw (unbuilt-as some-left false e) (rw (room-as false e) at (p .leaves));
-          }
+          answers = rw (unbuilt-as some-left false e) (rw (room-as false e) at (p .answers));
+          leaves = rw (unbuilt-as some-left false e) (rw (room-as false e) at (p .leaves));
+        }
 
--- the frame's length, 0 for none, as what placing answers
 module _ (kind : Kind) (contents before after : List ℕ) (n : ℕ) (f : Framed kind contents before after n) where
+  -- a frame of no bytes: there was no room
   pub none-placed : n ≡ 0 → Placed kind contents before after (Refused NoRoom)
   none-placed z = by (hasRoom kind contents before) refl
     where
@@ -94,6 +95,7 @@ module _ (kind : Kind) (contents before after : List ℕ) (n : ℕ) (f : Framed 
       by true e = absurd (omega (arith, answered kind contents before after n e f))
       by false e = record { answers = rw e refl; leaves = f .leaves }
 
+  -- any other: so many bytes were placed
   pub some-placed : (n ≡ 0 → ⊥) → Placed kind contents before after (Is n)
   some-placed s = by (hasRoom kind contents before) refl
     where
@@ -101,12 +103,14 @@ module _ (kind : Kind) (contents before after : List ℕ) (n : ℕ) (f : Framed 
       by true e = record { answers = rw e (ap Is (answered kind contents before after n e f)); leaves = f .leaves }
       by false e = absurd (s (none-framed kind contents before after n e f .1))
 
--- numbers stored one after the other into an array of zeros
+-- an array of zeros into which a number was stored is that number's bytes
 pub one-stored : (info : List ℕ) (n : ℕ) → info ≡ withNumber 4 n 0 (replicate 4 0) → info ≡ bytesOf 4 n
 unfolding withNumber bytesOf
 one-stored info n e = e
 
-pub two-stored : (first both : List ℕ) (m n : ℕ) → first ≡ withNumber 4 m 0 (replicate 8 0) → both ≡ withNumber 4 n 4 first → both ≡ bytesOf 4 m ++ bytesOf 4 n
+-- and one into which two were stored has the bytes of both
+pub two-stored : (first both : List ℕ) (m n : ℕ) → first ≡ withNumber 4 m 0 (replicate 8 0)
+    → both ≡ withNumber 4 n 4 first → both ≡ bytesOf 4 m ++ bytesOf 4 n
 unfolding withNumber bytesOf
 two-stored first both m n e f = f ∙ ap (withNumber 4 n 4) e
 

@@ -1,3 +1,4 @@
 pub mod Laws
 pub mod Packets
 pub mod Outcome
+pub mod Tells

@@ -1,14 +1,14 @@
 -- What a reader of a request's packet may rely on: it is whole and good, and what stands in it is what was asked. Assumes nothing.
-use mathlib.Core.Bool.{true, false, not}
+use mathlib.Core.Bool.{true, false}
 use mathlib.Core.List.{List, [], _∷_, _++_, append-assoc, append-nil}
 use mathlib.Core.Option.{none}
-use mathlib.Core.Path.{_≡_, refl, sym, ap, subst, _∙_}
-use Prim.Native.Nat.{ℕ, _+_, _-_, _<_, _≤_}
+use mathlib.Core.Path.{_≡_, refl, sym, ap, _∙_}
+use Prim.Native.Nat.{ℕ, _+_, _<_}
 use native.Mathlib.Omega.{arith}
 use lib.ListN.{length, take, drop, getD, length-append}
 use lib.Seq.{take-at, drop-at, drop-drop}
 use borrow.Author.Tests.{eqb-true, not-false}
-use Rattle.numbers.specs.Bytes.{bytesOf, field, AllBytes}
+use Rattle.numbers.specs.Bytes.{bytesOf}
 use Rattle.numbers.proofs.RoundTrip.{bytes-length}
 use Rattle.verdict.specs.Check.{firstFault, NoneApplies}
 use Rattle.verdict.proofs.FirstFault.{clear}
@@ -18,7 +18,7 @@ use Rattle.packet.specs.declared.Progress.the-variants.{Complete}
 use Rattle.packet.specs.Packet.{startOf, permitted, progressOf, sumOf, endsWell, good, contentsOf, lack, counted, frame}
 use Rattle.packet.proofs.Laws.{impossible}
 use Rattle.packet.proofs.Frames.{frame-length, frame-ends-well, frame-complete, frame-good, frame-contents}
-use Rattle.packet_fields.specs.Fields.{comNumber, comOf, codeAt, infoCount, infoOf, fourAt, sadOf, eadOf, brtOf, areaNumberOf, infoLength}
+use Rattle.packet_fields.specs.Fields.{comOf, codeAt, infoCount, infoOf, fourAt, sadOf, eadOf, brtOf, areaNumberOf, infoLength}
 use Rattle.packet_fields.proofs.Laws.{com-back}
 use Rattle.packet_fields.proofs.FieldLaws.{four-back}
 use Rattle.host_request.specs.declared.Request.{Request}
@@ -26,12 +26,13 @@ use Rattle.host_request.specs.declared.Request.the-variants.{Inquiry, Er
 use Rattle.host_request.specs.Request.{comFor, numberFor, kindFor, informationFor, contentsFor, packetFor, enclosable, nothingLeft, requestChecks}
 use Rattle.host_request.proofs.Laws.{contents-permitted}
 
--- a request that can be built has the bytes that it may have, and asks for something
 module _ (r : Request) (count : ℕ) (buildable : firstFault (requestChecks r count) ≡ none) where
+  -- a request that can be built has as many bytes lent as it may have
   pub buildable-lent : enclosable r count ≡ true
   unfolding requestChecks NoneApplies
   buildable-lent = not-false _ (clear (requestChecks r count) buildable .0)
 
+  -- and asks for something that is left
   pub buildable-left : nothingLeft r ≡ false
   unfolding requestChecks NoneApplies
   buildable-left = clear (requestChecks r count) buildable .1 .0
@@ -47,14 +48,17 @@ module _ (r : Request) (bytes : List ℕ) where
   unfolding frame bytesOf
   packet-behind = refl
 
+  -- it starts as its kind does
   pub packet-start : getD (packetFor r bytes) 0 0 ≡ startOf (kindFor r)
   unfolding frame
   packet-start = refl
 
+  -- COM or RES is the request's number
   pub packet-code : codeAt (packetFor r bytes) ≡ numberFor r
   unfolding frame bytesOf
   packet-code = refl
 
+  -- what stands between COM or RES and SUM is the request's information
   pub packet-count : infoCount (packetFor r bytes) ≡ length (informationFor r bytes)
   packet-count = omega (arith, packet-length)
 
@@ -72,44 +76,50 @@ module _ (r : Request) (bytes : List ℕ) where
       let q = packetFor r bytes in
       let end = lack (counted (contentsFor r bytes)) ∷ 0x03 ∷ [] in
       let long : length (informationFor r bytes) ≡ length before + (4 + length after) =
-      ap length e ∙ length-append before (bytesOf 4 n ++ after) ∙ ap (λ (k : ℕ). length before + k) (length-append (bytesOf 4 n) after ∙ ap (λ (k : ℕ). k + length after) (bytes-length 4 n)) in
+      ap length e ∙ omega (arith, length-append before (bytesOf 4 n ++ after), length-append (bytesOf 4 n) after, bytes-length 4 n) in
       let behind : drop (4 + length before) q ≡ bytesOf 4 n ++ (after ++ end) =
       sym (drop-drop (length before) 4 q)
       ∙ ap (drop (length before)) (packet-behind ∙ ap (λ (l : List ℕ). l ++ end) e ∙ append-assoc before (bytesOf 4 n ++ after) end)
       ∙ drop-at before ((bytesOf 4 n ++ after) ++ end) (length before) refl
       ∙ append-assoc (bytesOf 4 n) after end in
-      four-back n (4 + length before) q (omega (arith, packet-length)) below (ap (take 4) behind ∙ take-at (bytesOf 4 n) (after ++ end) 4 (bytes-length 4 n))
+      four-back n (4 + length before) q (omega (arith, packet-length)) below
+      (ap (take 4) behind ∙ take-at (bytesOf 4 n) (after ++ end) 4 (bytes-length 4 n))
 
-  -- SAD and EAD of a request with a range
   module _ (sad ead : ℕ) (range : informationFor r bytes ≡ bytesOf 4 sad ++ bytesOf 4 ead) where
+    -- SAD is the first number of a request with a range
     pub packet-sad : sad < 4294967296 → sadOf (packetFor r bytes) ≡ sad
     packet-sad below = packet-number [] (bytesOf 4 ead) sad below range
 
+    -- EAD is the second
     pub packet-ead : ead < 4294967296 → eadOf (packetFor r bytes) ≡ ead
     unfolding bytesOf
     packet-ead below = packet-number (bytesOf 4 sad) [] ead below (range ∙ ap (λ (l : List ℕ). bytesOf 4 sad ++ l) (sym (append-nil (bytesOf 4 ead))))
 
-  -- BRT and the area's number of those that have one
+  -- BRT is the number of a request with one
   pub packet-brt : (brt : ℕ) → informationFor r bytes ≡ bytesOf 4 brt → brt < 4294967296 → brtOf (packetFor r bytes) ≡ brt
   packet-brt brt e below = packet-number [] [] brt below (e ∙ sym (append-nil (bytesOf 4 brt)))
 
+  -- the area's number is the request's one byte
   pub packet-area : (n : ℕ) → informationFor r bytes ≡ n ∷ [] → areaNumberOf (packetFor r bytes) ≡ n
   unfolding frame bytesOf
   packet-area n e = ap (λ (l : List ℕ). getD (l ++ lack (counted (contentsFor r bytes)) ∷ 0x03 ∷ []) 0 0) e
 
 -- a request that can be built
 module _ (r : Request) (bytes : List ℕ) (buildable : firstFault (requestChecks r (length bytes)) ≡ none) where
+  -- its kind permits what it holds
   permits : permitted (kindFor r) (length (contentsFor r bytes)) ≡ true
   permits = contents-permitted r bytes (buildable-lent r (length bytes) buildable)
 
   -- its packet is one whole packet of its kind, with right ETX and SUM
-  pub packet-whole : (progressOf (kindFor r) (packetFor r bytes) ≡ Complete) × (endsWell (packetFor r bytes) ≡ true) × (good (packetFor r bytes) ≡ true)
+  pub packet-whole : (progressOf (kindFor r) (packetFor r bytes) ≡ Complete)
+      × (endsWell (packetFor r bytes) ≡ true) × (good (packetFor r bytes) ≡ true)
   packet-whole = (
     frame-complete (kindFor r) (contentsFor r bytes) permits,
     frame-ends-well (kindFor r) (contentsFor r bytes),
     frame-good (kindFor r) (contentsFor r bytes) permits,
   )
 
+  -- and its payload is the request's contents
   pub packet-contents : contentsOf (packetFor r bytes) ≡ contentsFor r bytes
   packet-contents = frame-contents (kindFor r) (contentsFor r bytes) permits
 
@@ -139,8 +149,7 @@ pub next-bytes : (left : ℕ) (bytes : List ℕ) → packetFor (Next left) bytes
 unfolding frame bytesOf lack sumOf
 next-bytes left bytes = refl
 
--- requests with one packet
-
+-- kinds with one start byte are one kind
 start-once : (kind other : Kind) → startOf kind ≡ startOf other → kind ≡ other
 start-once Command Command e = refl
 start-once Command Data e = absurd (omega arith)

@@ -1,5 +1,5 @@
 -- What a host asks of a device: each request's packet, and what it takes to build it.
-use mathlib.Core.Bool.{Bool, true, false, _&&_, not}
+use mathlib.Core.Bool.{Bool, false, _&&_, not}
 use mathlib.Core.List.{List, [], _∷_, _++_}
 use Prim.Native.Nat.{ℕ, _<_}
 use lib.ListN.{length}

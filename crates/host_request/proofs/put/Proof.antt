@@ -1,31 +1,19 @@
-use Rattle.host_request.proofs.Laws.{none-placed, some-placed}
+-- `host_request::put` meets its contract. The answer is 0 exactly where nothing was placed. Assumes nothing.
 use mathlib.Core.List.{_∷_}
 use borrow.Author.Needs.{needs}
+use Rattle.host_request.proofs.Laws.{none-placed, some-placed}
 use Rattle.host_request.proofs.put.Statement.{statement}
 use Rattle.host_request.proofs.put.Tie as tie
-use Rattle.host_request.proofs.put.Reads as reads
-use Rattle.host_request.proofs.put.Lts as lts
-use Rattle.packet.proofs.put_frame.Reads as put-frame-reads
 
--- src/lib.rt:123:9
-put-frame-requires : tie.Need-put-frame-requires
-put-frame-requires c κs = search needs
-
--- src/lib.rt:125:9
-same-length : tie.Need-same-length
-same-length c = search needs
-
--- src/lib.rt:125:9
 returns : tie.Need-returns
-returns c = none-placed (c .before .before .before .before .before .before .before .args .kind) (c .before .before .before .before .before .before .before .args .code ∷ c .before .before .before .before .before .before .before .args .bytes .now) (c .before .before .before .before .before .before .before .args .buffer .now) _ _ (c .before .before .before .put-frame .ensures) (c .if1 .taken)
+returns c =
+    let a = c .before .before .before .before .before .before .before .args in
+    none-placed (a .kind) (a .code ∷ a .bytes .now) (a .buffer .now) _ _ (c .before .before .before .put-frame .ensures) (c .if1 .taken)
 
--- src/lib.rt:120:1
-same-length-2 : tie.Need-same-length-2
-same-length-2 c = search needs
-
--- src/lib.rt:120:1
 returns-2 : tie.Need-returns-2
-returns-2 c = some-placed (c .before .before .before .before .before .before .before .args .kind) (c .before .before .before .before .before .before .before .args .code ∷ c .before .before .before .before .before .before .before .args .bytes .now) (c .before .before .before .before .before .before .before .args .buffer .now) _ _ (c .before .before .before .put-frame .ensures) (c .if1 .left)
+returns-2 c =
+    let a = c .before .before .before .before .before .before .before .args in
+    some-placed (a .kind) (a .code ∷ a .bytes .now) (a .buffer .now) _ _ (c .before .before .before .put-frame .ensures) (c .if1 .left)
 
 pub put-spec : {M : Type 1} → statement M
-put-spec = tie.close (tie.spec put-frame-requires same-length returns same-length-2 returns-2)
+put-spec = tie.close (tie.spec (λ c κs. search needs) (λ c. search needs) returns (λ c. search needs) returns-2)
