@@ -12,7 +12,7 @@ use profile::Window;
 pub const PROFILE_LENGTH: usize = 156;
 
 // The number in two bytes.
-fn two_at(bytes: &[u8], at: usize) -> u16
+pub fn two_at(bytes: &[u8], at: usize) -> u16
     ensures { λ r. ⌜ r ≡ twoAt (now (bytes .entry)) at ⌝ }
 {
     let number = numbers::read_two(bytes, at);
