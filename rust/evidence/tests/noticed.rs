@@ -51,9 +51,10 @@ fn and_so_are_those_of_recordings() {
     notice(Fault::OF_RECORDINGS.iter(), in_recordings);
 }
 
+/// Those of the host's end show in the model's own tests.
 #[test]
 fn no_fault_is_left_out() {
-    let looked_for = [Fault::OF_DEVICE, Fault::OF_RECORDINGS].concat();
+    let looked_for = [Fault::OF_DEVICE, Fault::OF_RECORDINGS, Fault::OF_HOST].concat();
     assert_eq!(looked_for, Fault::ALL);
     assert!(Fault::OF_DEVICE.len() >= 37 && Fault::OF_RECORDINGS.len() >= 33);
 }

@@ -29,19 +29,23 @@ macro_rules! faults {
     (
         of the device { $($(#[$device_doc:meta])* $device:ident,)* }
         of recordings { $($(#[$record_doc:meta])* $record:ident,)* }
+        of the host { $($(#[$host_doc:meta])* $host:ident,)* }
     ) => {
-        /// One way in which a device can be wrong, or what reads, writes and
-        /// replays its recordings.
+        /// One way in which a device can be wrong, what reads, writes and
+        /// replays its recordings, or the host's end of its line.
         #[derive(Clone, Copy, Debug, PartialEq, Eq, Hash)]
         pub enum Fault {
             $($(#[$device_doc])* $device,)*
             $($(#[$record_doc])* $record,)*
+            $($(#[$host_doc])* $host,)*
         }
 
         impl Fault {
             pub const OF_DEVICE: &'static [Fault] = &[$(Fault::$device,)*];
             pub const OF_RECORDINGS: &'static [Fault] = &[$(Fault::$record,)*];
-            pub const ALL: &'static [Fault] = &[$(Fault::$device,)* $(Fault::$record,)*];
+            pub const OF_HOST: &'static [Fault] = &[$(Fault::$host,)*];
+            pub const ALL: &'static [Fault] =
+                &[$(Fault::$device,)* $(Fault::$record,)* $(Fault::$host,)*];
         }
     };
 }
@@ -193,5 +197,135 @@ faults! {
         ReplyBehindResetCounts,
         /// Goes on with a replay behind a record that is no good.
         ReplayPassesUnreadable,
+    }
+    of the host {
+        /// Leaves the length's high byte out of SUM.
+        SumWithoutHighLength,
+        /// Sends EAD before SAD.
+        SadAndEadSwapped,
+        /// Asks for the next packet of a read that has nothing left.
+        NextOfNothingBuilt,
+        /// Asks for the next packet of a read with 01h.
+        NextSentAsCommand,
+        /// Builds a data packet with 1,025 bytes.
+        Data1025Built,
+        /// Builds a data packet without data.
+        NoDataBuilt,
+        /// Builds a code of fewer than 16 bytes.
+        ShortCodeBuilt,
+        /// Builds a request that has no bytes beside it, and leaves them out.
+        StrayBytesIgnored,
+        /// Looks for room before it looks how many bytes are lent.
+        RoomBeforeAmount,
+        /// Looks at what is left before it looks how many bytes are lent.
+        NothingLeftBeforeAmount,
+        /// Looks for room before it looks at what is left.
+        RoomBeforeNothingLeft,
+        /// Leaves the front of a packet in a buffer that it doesn't fit in.
+        HeadWithoutRoomBuilt,
+        /// Refuses a packet that fills the buffer up.
+        FullBufferRefused,
+        /// Clears the buffer behind a packet.
+        BehindPacketCleared,
+        /// Begins with the verdict that the request passed.
+        VerdictStartsPassed,
+        /// Takes RES without bit 7 and a status that isn't 0 for a refusal.
+        StatusWithoutBit7Refuses,
+        /// Takes RES with bit 7 and status 0 for a refusal.
+        StatusZeroRefuses,
+        /// Doesn't look at STS of an OK.
+        StatusNotLookedAt,
+        /// Passes another command's RES.
+        OtherResPasses,
+        /// Takes errors of a write for refusals of a read, and the reverse.
+        TransferErrorsAlike,
+        /// Takes RES 80h with C1h for a refusal of every request.
+        EarlyRefusalCounts,
+        /// Takes only the codes of the device's own rules for refusals.
+        OtherCodesAreWrong,
+        /// Takes an error reply with more behind STS for a refusal.
+        LongErrorRefuses,
+        /// Passes a status reply with more behind STS.
+        LongStatusPasses,
+        /// Passes a signature or an area message of any length.
+        OtherDataLengthPasses,
+        /// Passes a read packet with less data than it should have.
+        ShortReadPacketPasses,
+        /// Passes a read's last packet with more data than was left.
+        LongLastPacketPasses,
+        /// Takes the one byte of a read for a status.
+        OneByteReadIsStatus,
+        /// Counts the bytes of a read modulo 2 to the 32nd.
+        ReadSizeWraps,
+        /// Passes a data packet without data where nothing is to be read.
+        EmptyReadPasses,
+        /// Doesn't look at a reply's SUM.
+        BadSumPasses,
+        /// Doesn't look at a reply's ETX.
+        BadEtxPasses,
+        /// Decides with SUM and takes ETX for granted.
+        SumDecides,
+        /// Decides on a RES that isn't the request's before the packet is whole.
+        ResDecides,
+        /// Decides with the first length byte where no second one could help.
+        HighLengthDecides,
+        /// Decides on a length that no packet has only when all of it has come.
+        BadLengthAwaited,
+        /// Looks for another packet behind a length that no packet has.
+        BadLengthSkipped,
+        /// Takes a reply of length 1,026.
+        Length1026Awaited,
+        /// Takes length 1,025 for one that no packet has.
+        Length1025Wrong,
+        /// Looks for another packet behind one that is a wrong reply.
+        WrongPacketSkipped,
+        /// Begins the packet anew at 81h in the place of a length byte.
+        SecondStartCounts,
+        /// Takes 01h for the beginning of a wrong reply.
+        CommandPacketJudged,
+        /// Takes all bytes, also those behind the one that decides.
+        BytesBehindVerdictTaken,
+        /// Judges anew when bytes come after a verdict.
+        VerdictIsNotFinal,
+        /// Adds up only what comes in one call.
+        SumStartsAnewWithACall,
+        /// Takes RES for data.
+        DataFromRes,
+        /// Takes SUM for data.
+        DataWithSum,
+        /// Keeps 16 bytes of data.
+        KeepsOneByteFewer,
+        /// Says the fields of a message that didn't pass.
+        FieldsWithoutPass,
+        /// Says EAU for WAU, and the reverse.
+        UnitsSwapped,
+        /// Plans data packets of up to 1,025 bytes.
+        PartsOf1025,
+        /// Plans data packets that end inside of a unit.
+        UnitsCut,
+        /// Plans a data packet for each unit.
+        OneUnitAPart,
+        /// Plans a last data packet without data.
+        EmptyPartPlanned,
+        /// Plans a last data packet that is as long as the others.
+        LastPartFull,
+        /// Plans data packets without the command before them.
+        WriteNotAskedFor,
+        /// Plans a write of fewer bytes than the range has.
+        LessDataPlanned,
+        /// Plans with a WAU of 1,025.
+        Unit1025Planned,
+        /// Refuses a WAU of 1,024.
+        Unit1024Refused,
+        /// Looks at WAU before it looks at the order of SAD and EAD.
+        UnitBeforeRange,
+        /// Looks at EAD before it looks at SAD for alignment.
+        EndBeforeStart,
+        /// Looks at the amount of data before it looks at alignment.
+        AmountBeforeAlignment,
+        /// Tests EAD instead of EAD + 1 for alignment in a plan.
+        PlanAlignsEadItself,
+        /// Takes EAD + 1 modulo 2 to the 32nd for alignment.
+        PlannedEndWraps,
     }
 }

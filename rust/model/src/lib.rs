@@ -1,5 +1,6 @@
 //! A model of a microcontroller in serial programming mode: bytes in, reply
-//! bytes out, and a flash image that can be inspected.
+//! bytes out, and a flash image that can be inspected; and of the host at the
+//! other end of its line.
 //!
 //! It is written from the scope document alone and shares no code with the
 //! proved library, so that agreement of the two says something about both.
@@ -12,6 +13,7 @@ mod answer;
 mod baud;
 mod device;
 mod faults;
+mod host;
 mod layout;
 mod packet;
 mod profile;
@@ -20,6 +22,8 @@ mod replay;
 
 pub use device::{feed, feed_with, fits, reset, reset_with, start, start_with};
 pub use faults::Fault;
+pub use host::{build, build_with, plan, plan_with};
+pub use host::{Judge, Plan, Request, Taken, Unbuilt, Unplanned, Verdict};
 pub use layout::{profile_bytes, profile_from, state_bytes, state_from};
 pub use packet::payload;
 pub use profile::{acceptable, total};

@@ -1,7 +1,8 @@
-//! Each fault shows on some line or some record, and without one nothing
-//! changes.
+//! Each fault shows on some line, some record or some packet of the host, and
+//! without one nothing changes.
 
 use crate::bench::*;
+use crate::host::{CONFIG_AREA, SIGNATURE};
 use crate::record::{small_profile, some_line};
 use crate::recording::{erased, record};
 use indraveck_model::*;
@@ -54,6 +55,12 @@ enum Telling {
     Write(usize, usize, u32, usize),
     /// A recording, and how much of the image is missing.
     Replay(Vec<u8>, usize),
+    /// A request, how many bytes are lent beside it and a buffer's length.
+    Build(Request, usize, usize),
+    /// A request, and what comes back in parts.
+    Judge(Request, Vec<Vec<u8>>),
+    /// SAD, EAD, WAU and how many bytes.
+    Plan(u32, u32, u32, usize),
 }
 
 impl Telling {
@@ -75,6 +82,35 @@ impl Telling {
                 let mut image = vec![0x5A; total(&p) as usize - missing];
                 let replayed = replay_recording_with(fault, &p, &mut image, &recording);
                 [format!("{:?}", replayed).into_bytes(), image].concat()
+            }
+            Telling::Build(request, amount, room) => {
+                let mut buffer = vec![UNTOUCHED; room];
+                let bytes = vec![0x33; amount];
+                let answer = build_with(fault, request, &bytes, &mut buffer);
+                [format!("{:?}", answer).into_bytes(), buffer].concat()
+            }
+            Telling::Judge(request, parts) => {
+                let mut judge = Judge::start_with(fault, request);
+                let mut told = format!("{:?}", judge.verdict());
+                for part in parts {
+                    let taken = judge.take_with(fault, &part);
+                    let fields = (judge.sci_with(fault), judge.area_with(fault));
+                    let verdict = judge.verdict();
+                    told += &format!("{taken:?} {verdict:?} {fields:?} {:?}", judge.kept());
+                }
+                told.into_bytes()
+            }
+            Telling::Plan(sad, ead, wau, count) => {
+                let mut told = String::new();
+                match plan_with(fault, sad, ead, wau, count) {
+                    Err(refusal) => told = format!("{refusal:?}"),
+                    Ok(mut plan) => {
+                        while let Some(step) = plan.next_with(fault) {
+                            told += &format!("{step:?}");
+                        }
+                    }
+                }
+                told.into_bytes()
             }
         }
     }
@@ -120,10 +156,87 @@ fn telling(fault: Fault) -> Telling {
         Fault::ReplayPassesUnreadable => {
             Telling::Replay([vec![0x00], erased().concat()].concat(), 0)
         }
+        fault if Fault::OF_HOST.contains(&fault) => host_telling(fault),
         fault => {
             let (bench, parts) = line_telling(fault);
             Telling::Line(bench, parts)
         }
+    }
+}
+
+/// What a fault of the host's end must show on.
+fn host_telling(fault: Fault) -> Telling {
+    use Request::*;
+    let read = |sad, ead| Read { sad, ead };
+    let next = |left| Next { left };
+    let write = |sad, ead| Write { sad, ead };
+    let judge = |request, reply: Vec<u8>| Telling::Judge(request, vec![reply]);
+    match fault {
+        Fault::SumWithoutHighLength => Telling::Build(WriteData, 255, 2000),
+        Fault::SadAndEadSwapped => Telling::Build(write(0, 0x7F), 0, 2000),
+        Fault::NextOfNothingBuilt => Telling::Build(next(0), 0, 2000),
+        Fault::NextSentAsCommand => Telling::Build(next(1), 0, 2000),
+        Fault::Data1025Built => Telling::Build(WriteData, 1025, 2000),
+        Fault::NoDataBuilt => Telling::Build(WriteData, 0, 2000),
+        Fault::ShortCodeBuilt => Telling::Build(Authenticate, 15, 2000),
+        Fault::StrayBytesIgnored => Telling::Build(Inquiry, 1, 2000),
+        Fault::RoomBeforeAmount => Telling::Build(WriteData, 1025, 1030),
+        Fault::NothingLeftBeforeAmount => Telling::Build(next(0), 1, 2000),
+        Fault::RoomBeforeNothingLeft => Telling::Build(next(0), 0, 6),
+        Fault::HeadWithoutRoomBuilt => Telling::Build(Inquiry, 0, 5),
+        Fault::FullBufferRefused => Telling::Build(Inquiry, 0, 6),
+        Fault::BehindPacketCleared => Telling::Build(Inquiry, 0, 7),
+        Fault::VerdictStartsPassed => judge(Inquiry, vec![]),
+        Fault::StatusWithoutBit7Refuses => judge(Inquiry, status(0x00, 0xC1)),
+        Fault::StatusZeroRefuses => judge(Inquiry, status(0x80, 0x00)),
+        Fault::StatusNotLookedAt => judge(Inquiry, status(0x00, 0x01)),
+        Fault::OtherResPasses => judge(Inquiry, status(0x13, 0x00)),
+        Fault::TransferErrorsAlike => judge(next(1), status(0x93, 0xC1)),
+        Fault::EarlyRefusalCounts => judge(Signature, status(0x80, 0xC1)),
+        Fault::OtherCodesAreWrong => judge(Inquiry, status(0x80, 0x01)),
+        Fault::LongErrorRefuses => judge(Inquiry, data(0x80, &[0xC1, 0])),
+        Fault::LongStatusPasses => judge(Inquiry, data(0x00, &[0, 0])),
+        Fault::OtherDataLengthPasses => judge(Signature, data(0x3A, &[0; 13])),
+        Fault::ShortReadPacketPasses => judge(read(0, 15), data(0x15, &[0; 15])),
+        Fault::LongLastPacketPasses => judge(next(1023), data(0x15, &[0; 1024])),
+        Fault::OneByteReadIsStatus => judge(read(7, 7), status(0x15, 0xD0)),
+        Fault::ReadSizeWraps => judge(read(0, u32::MAX), data(0x15, &[0; 1024])),
+        Fault::EmptyReadPasses => judge(read(1, 0), data(0x15, &[])),
+        Fault::BadSumPasses => judge(Inquiry, hex("81 00 02 00 00 FF 03")),
+        Fault::BadEtxPasses => judge(Inquiry, hex("81 00 02 00 00 FE 04")),
+        Fault::SumDecides => judge(Inquiry, hex("81 00 02 00 00 FE")),
+        Fault::ResDecides => judge(Inquiry, hex("81 00 02 13")),
+        Fault::HighLengthDecides => judge(Inquiry, hex("81 81")),
+        Fault::BadLengthAwaited => judge(Inquiry, hex("81 00 00")),
+        Fault::BadLengthSkipped => judge(Inquiry, hex("81 81 00 81 00 02 00 00 FE 03")),
+        Fault::Length1026Awaited => judge(Inquiry, hex("81 04 02")),
+        Fault::Length1025Wrong => judge(Inquiry, hex("81 04 01")),
+        Fault::WrongPacketSkipped => judge(Inquiry, [hex(OK_WRITE), hex(OK_INQUIRY)].concat()),
+        Fault::SecondStartCounts => judge(Inquiry, hex("81 81 00 02 00 00 FE 03")),
+        Fault::CommandPacketJudged => judge(Inquiry, hex("01")),
+        Fault::BytesBehindVerdictTaken => judge(Inquiry, [hex(OK_INQUIRY), vec![0]].concat()),
+        Fault::VerdictIsNotFinal => Telling::Judge(Inquiry, vec![hex(OK_INQUIRY), hex(OK_WRITE)]),
+        Fault::SumStartsAnewWithACall => {
+            Telling::Judge(Inquiry, vec![hex("81 00 02"), hex("00 00 FE 03")])
+        }
+        Fault::DataFromRes | Fault::DataWithSum => judge(Inquiry, hex(OK_INQUIRY)),
+        Fault::KeepsOneByteFewer | Fault::UnitsSwapped => judge(Area(1), hex(CONFIG_AREA)),
+        Fault::FieldsWithoutPass => judge(Signature, hex(SIGNATURE)[..17].to_vec()),
+        Fault::PartsOf1025 => Telling::Plan(0, 1024, 1, 1025),
+        Fault::UnitsCut => Telling::Plan(0, 1025, 513, 1026),
+        Fault::OneUnitAPart => Telling::Plan(0, 0xFF, 0x80, 0x100),
+        Fault::EmptyPartPlanned => Telling::Plan(0, 0, 1, 1),
+        Fault::LastPartFull => Telling::Plan(0, 0x7F, 0x80, 0x80),
+        Fault::WriteNotAskedFor => Telling::Plan(0, 0, 1, 1),
+        Fault::LessDataPlanned => Telling::Plan(0, 0xFF, 0x80, 0x80),
+        Fault::Unit1025Planned => Telling::Plan(0, 1024, 1025, 1025),
+        Fault::Unit1024Refused => Telling::Plan(0, 1023, 1024, 1024),
+        Fault::UnitBeforeRange => Telling::Plan(1, 0, 0, 0),
+        Fault::EndBeforeStart => Telling::Plan(1, 2, 2, 2),
+        Fault::AmountBeforeAlignment => Telling::Plan(1, 2, 2, 1),
+        Fault::PlanAlignsEadItself => Telling::Plan(0, 0x80, 0x80, 0x81),
+        Fault::PlannedEndWraps => Telling::Plan(0, u32::MAX, 3, 1 << 32),
+        _ => panic!("nothing is said to show {fault:?}"),
     }
 }
 
@@ -227,7 +340,7 @@ fn line_telling(fault: Fault) -> (Bench, Vec<Option<Vec<u8>>>) {
 
 #[test]
 fn every_fault_shows() {
-    assert!(Fault::ALL.len() >= 70);
+    assert!(Fault::ALL.len() >= 130);
     for &fault in Fault::ALL {
         let run = |f| telling(fault).told(f);
         assert!(run(None) != run(Some(fault)), "{fault:?}");
@@ -248,6 +361,35 @@ fn most_faults_leave_a_plain_record_alone() {
             Telling::Read(hex("52 4C 48 00 03 01 02 03"), 0),
             Telling::Write(20, 1, 0x44, 7),
             Telling::Replay(erased().concat(), 0),
+        ];
+        plain.map(|telling| telling.told(fault))
+    };
+    for &fault in Fault::ALL {
+        let same = run(None) == run(Some(fault));
+        assert_eq!(same, !always.contains(&fault), "{fault:?}");
+    }
+}
+
+/// The same for the host: an inquiry that is built and answered by OK, and a
+/// write of one unit.
+#[test]
+fn most_faults_leave_a_plain_exchange_alone() {
+    let always = [
+        Fault::BehindPacketCleared,
+        Fault::VerdictStartsPassed,
+        Fault::SumDecides,
+        Fault::DataFromRes,
+        Fault::DataWithSum,
+        Fault::EmptyPartPlanned,
+        Fault::LastPartFull,
+        Fault::WriteNotAskedFor,
+        Fault::PlanAlignsEadItself,
+    ];
+    let run = |fault| {
+        let plain = [
+            Telling::Build(Request::Inquiry, 0, 7),
+            Telling::Judge(Request::Inquiry, vec![hex(OK_INQUIRY)]),
+            Telling::Plan(0, 0x7F, 0x80, 0x80),
         ];
         plain.map(|telling| telling.told(fault))
     };

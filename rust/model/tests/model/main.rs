@@ -4,6 +4,8 @@ mod bench;
 mod calls;
 mod examples;
 mod faults;
+mod host;
+mod host_counts;
 mod profiles;
 mod rates;
 mod record;
