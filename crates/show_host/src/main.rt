@@ -444,21 +444,20 @@ fn count_request(name: &[u8], request: Request, data: &[u8]) {
     count_reply(name, b" refused", request, &mut reply[..m]);
 }
 
-fn count_statuses() {
-    let ok = [0u8];
-    count_request(b"inquiry", Request::Inquiry, &ok);
-    count_request(b"erase", Request::Erase(0, 0x1FFF), &ok);
-    count_request(b"write", Request::Write(0, 0x7F), &ok);
-    count_request(b"authenticate", Request::Authenticate, &ok);
-    count_request(b"baud", Request::Baud(9600), &ok);
-    count_request(b"write-data", Request::WriteData, &ok);
-}
-
-fn count_data() {
+fn count_first() {
+    count_request(b"inquiry", Request::Inquiry, b"\x00");
+    count_request(b"erase", Request::Erase(0, 0x1FFF), b"\x00");
+    count_request(b"write", Request::Write(0, 0x7F), b"\x00");
     count_request(b"read1", Request::Read(0, 0), b"\x00");
     count_request(b"read16", Request::Read(0, 15), b"\x00\x01\x02\x03\x04\x05\x06\x07\x08\x09\x0A\x0B\x0C\x0D\x0E\x0F");
+    count_request(b"authenticate", Request::Authenticate, b"\x00");
+}
+
+fn count_second() {
+    count_request(b"baud", Request::Baud(9600), b"\x00");
     count_request(b"signature", Request::Signature, b"\x03\x93\x87\x00\x00\x3D\x09\x00\x02\x01\x01\x00");
     count_request(b"area", Request::Area(1), b"\x02\x01\x00\x00\x00\x01\x00\x00\xFF\x00\x00\x00\x00\x00\x00\x00\x10");
+    count_request(b"write-data", Request::WriteData, b"\x00");
     count_request(b"next", Request::Next(3), b"\xAA\xBB\xCC");
 }
 
@@ -473,6 +472,6 @@ fn main() {
     make_plans();
     refuse_plans();
     print_title(b"each byte changed to every value: unanswered passed refused wrong");
-    count_statuses();
-    count_data();
+    count_first();
+    count_second();
 }
