@@ -1,6 +1,7 @@
 // A reply byte by byte: what the judge knows behind each.
+ghost use mathlib.Core.Bool.{cond};
 ghost use mathlib.Core.Path.{_≡_};
-ghost use Prim.Native.Nat.{_+_, _%_, _≤_};
+ghost use Prim.Native.Nat.{_+_, _≤_, _<_};
 ghost use lib.ListN.{length};
 ghost use Rattle.host_judge.specs.Reply.{isUnanswered, grants, judgedBy};
 ghost use Rattle.host_judge.specs.Judge.{lengthIn, dataEnd, withCount, isKept, grown, begun, advanced, finished, heardByte, placeIn};
@@ -72,29 +73,32 @@ fn is_kept(reply: Reply) -> bool
     4 <= at && at < numbers::lower(data_end(reply), 21)
 }
 
+// The byte where it belongs here, and the old one elsewhere.
+fn pick(here: bool, byte: u8, old: u8) -> u8
+    ensures { λ r. ⌜ r ≡ cond here byte old ⌝ }
+{
+    if here { byte } else { old }
+}
+
 // One byte more, of those that SUM counts: it goes where its place says.
 fn grow(reply: Reply, byte: u8) -> Reply
     requires { ⌜ reply .count ≤ 65538 ⌝ }
     ensures { λ r. ⌜ r ≡ grown reply byte ⌝ }
 {
-    let mut y = reply;
     let at = reply.count;
-    if at == 1 {
-        y.high = byte;
-    }
-    if at == 2 {
-        y.low = byte;
-    }
-    if at == 3 {
-        y.res = byte;
-    }
+    let mut first = reply.first;
     if is_kept(reply) {
         let i = at as usize - 4;
-        y.first[i] = byte;
+        first[i] = byte;
     }
-    y.sum = std::num::wrapping_add_u8(reply.sum, byte);
-    y.count = at + 1;
-    y
+    Reply {
+        count: at + 1,
+        high: pick(at == 1, byte, reply.high),
+        low: pick(at == 2, byte, reply.low),
+        res: pick(at == 3, byte, reply.res),
+        sum: std::num::wrapping_add_u8(reply.sum, byte),
+        first,
+    }
 }
 
 // Before 81h: every other byte is skipped.
@@ -135,9 +139,12 @@ fn advance(judge: Judge, reply: Reply) -> Judge
 fn is_grant(due: Due, number: u8, n: usize, res: u8, first: u8) -> bool
     ensures { λ r. ⌜ r ≡ grants due number n res first ⌝ }
 {
+    if res != number {
+        return false;
+    }
     match due {
-        Due::Status => n == 2 && res == number && first == 0,
-        Due::Data(count) => n == count + 1 && res == number,
+        Due::Status => n == 2 && first == 0,
+        Due::Data(count) => 0 < n && n - 1 == count,
         Due::Nothing => false,
     }
 }
@@ -196,7 +203,7 @@ fn hear_byte(judge: Judge, byte: u8) -> Judge
 
 // How many of the next bytes only count for SUM: those behind the seventeen that are kept, and SUM itself.
 fn run(reply: Reply, most: usize) -> usize
-    ensures { λ r. ⌜ (r ≡ runOf reply most) × (r ≤ most) ⌝ }
+    ensures { λ r. ⌜ (r ≡ runOf reply most) × (r ≤ most) × (0 < r → reply .count + r ≤ 65539) ⌝ }
 {
     let at = reply.count as usize;
     let end = length(reply) as usize + 4;

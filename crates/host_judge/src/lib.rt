@@ -2,7 +2,7 @@
 mod hearing;
 
 ghost use mathlib.Core.Path.{_≡_};
-ghost use Prim.Native.Nat.{_+_, _-_};
+ghost use Prim.Native.Nat.{_+_, _-_, _≤_};
 ghost use Rattle.host_judge.specs.Reply.{dueFor, readDue, judgementNumber};
 ghost use Rattle.host_judge.specs.Judge.{freshJudge, takenOf, sciIn, areaIn};
 use hearing::data_end;
@@ -78,7 +78,7 @@ pub enum Fields {
 
 // The paper has no numbers for these; 0 is that nothing was answered.
 pub fn judgement_number(judgement: Judgement) -> u32
-    ensures { λ r. ⌜ r ≡ judgementNumber judgement ⌝ }
+    ensures { λ r. ⌜ (r ≡ judgementNumber judgement) × (r ≤ 511) ⌝ }
 {
     match judgement {
         Judgement::Unanswered => 0,

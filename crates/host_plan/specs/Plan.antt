@@ -1,5 +1,5 @@
 -- Which packets write a range: the command, then its data in packets of whole units.
-use mathlib.Core.Bool.{Bool, true, false, not, cond}
+use mathlib.Core.Bool.{true, false, not, cond}
 use mathlib.Core.List.{List, [], _∷_}
 use mathlib.Core.Option.{Option, none, some}
 use Prim.Native.Nat.{ℕ, _+_, _-_, _*_, _/_, _%_, min}
@@ -50,12 +50,17 @@ sentUpTo at plan = record { sad = plan .sad; ead = plan .ead; begun = true; size
 abbrev pub pieceEnd : Plan → ℕ
 pieceEnd plan = plan .from + min (plan .end - plan .from) (plan .size)
 
--- the next request: the command, which no data goes with, then the data in order
+-- the command, which no data goes with
+abbrev pub commandOf : Plan → Sending
+commandOf plan = record { request = Write (plan .sad) (plan .ead); from = plan .from; to = plan .from; rest = sentUpTo (plan .from) plan }
+
+-- the next piece of data
+abbrev pub dataOf : Plan → Sending
+dataOf plan = record { request = WriteData; from = plan .from; to = pieceEnd plan; rest = sentUpTo (pieceEnd plan) plan }
+
+-- the next request: the command, then the data in order
 unfoldable pub followingOf : Plan → Following
-followingOf plan =
-    cond (not (plan .begun)) (Send (record { request = Write (plan .sad) (plan .ead); from = plan .from; to = plan .from; rest = sentUpTo (plan .from) plan }))
-    (cond (ltb (plan .from) (plan .end)) (Send (record { request = WriteData; from = plan .from; to = pieceEnd plan; rest = sentUpTo (pieceEnd plan) plan }))
-    Done)
+followingOf plan = cond (not (plan .begun)) (Send (commandOf plan)) (cond (ltb (plan .from) (plan .end)) (Send (dataOf plan)) Done)
 
 -- the data that goes with a request
 abbrev pub pieceOf : Sending → List ℕ → List ℕ
