@@ -8,7 +8,7 @@ use lib.Dec.{leb, ltb}
 use Rattle.packet.specs.Packet.{sumOf}
 use Rattle.host_judge.specs.declared.Reply.{Reply}
 use Rattle.host_judge.specs.declared.Judge.{Judge}
-use Rattle.host_judge.specs.declared.hearing.Hearing.{Hearing}
+use Rattle.host_judge.specs.declared.taking.Hearing.{Hearing}
 use Rattle.host_judge.specs.Judge.{lengthIn, hearingOf}
 
 -- how many of the next bytes only count for SUM, of at most so many: those behind the seventeen that are kept, and SUM itself

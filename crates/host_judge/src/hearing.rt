@@ -1,11 +1,9 @@
 // A reply byte by byte: what the judge knows behind each.
 ghost use mathlib.Core.Bool.{cond};
 ghost use mathlib.Core.Path.{_≡_};
-ghost use Prim.Native.Nat.{_+_, _≤_, _<_};
-ghost use lib.ListN.{length};
+ghost use Prim.Native.Nat.{_≤_};
 ghost use Rattle.host_judge.specs.Reply.{isUnanswered, grants, judgedBy};
 ghost use Rattle.host_judge.specs.Judge.{lengthIn, dataEnd, withCount, isKept, grown, begun, advanced, finished, heardByte, placeIn};
-ghost use Rattle.host_judge.specs.Runs.{runOf, runAdded, HeardBytes};
 use crate::Due;
 use crate::Judge;
 use crate::Judgement;
@@ -14,14 +12,8 @@ use crate::due_to;
 use host_request::Request;
 use packet::Kind;
 
-// The judge behind some bytes, and how many of them were taken.
-pub(crate) struct Hearing {
-    pub(crate) judge: Judge,
-    pub(crate) count: usize,
-}
-
 // What the length bytes say.
-fn length(reply: Reply) -> u32
+pub(crate) fn length(reply: Reply) -> u32
     ensures { λ r. ⌜ (r ≡ lengthIn reply) × (r ≤ 65535) ⌝ }
 {
     reply.high as u32 * 256 + reply.low as u32
@@ -45,7 +37,7 @@ pub(crate) fn place(taken: usize, count: usize, at: usize) -> usize
     taken - numbers::lower(taken, count - at)
 }
 
-fn is_unanswered(judgement: Judgement) -> bool
+pub(crate) fn is_unanswered(judgement: Judgement) -> bool
     ensures { λ r. ⌜ r ≡ isUnanswered judgement ⌝ }
 {
     match judgement {
@@ -187,7 +179,7 @@ fn finish(judge: Judge, byte: u8) -> Judge
 }
 
 // One byte, where nothing is decided yet.
-fn hear_byte(judge: Judge, byte: u8) -> Judge
+pub(crate) fn hear_byte(judge: Judge, byte: u8) -> Judge
     ensures { λ r. ⌜ r ≡ heardByte judge byte ⌝ }
 {
     let reply = judge.reply;
@@ -199,60 +191,4 @@ fn hear_byte(judge: Judge, byte: u8) -> Judge
         return finish(judge, byte);
     }
     advance(judge, grow(reply, byte))
-}
-
-// How many of the next bytes only count for SUM: those behind the seventeen that are kept, and SUM itself.
-fn run(reply: Reply, most: usize) -> usize
-    ensures { λ r. ⌜ (r ≡ runOf reply most) × (r ≤ most) × (0 < r → reply .count + r ≤ 65539) ⌝ }
-{
-    let at = reply.count as usize;
-    let end = length(reply) as usize + 4;
-    if at < 21 || end <= at {
-        return 0;
-    }
-    numbers::lower(most, end - at)
-}
-
-// Those bytes at once.
-fn add(judge: Judge, part: &[u8]) -> Judge
-    requires { ⌜ judge .reply .count + length (now part) ≤ 65539 ⌝ }
-    ensures { λ r. ⌜ r ≡ runAdded judge (now (part .entry)) ⌝ }
-{
-    let mut y = judge.reply;
-    y.sum = std::num::wrapping_add_u8(y.sum, packet::sum(part));
-    y.count += part.len() as u32;
-    let mut j = judge;
-    j.reply = y;
-    j
-}
-
-// One byte after the other, or a run of them at once, up to the one that decides.
-pub(crate) fn hear(judge: Judge, bytes: &[u8]) -> Hearing
-    ensures { λ r. ⌜ HeardBytes judge (now (bytes .entry)) r ⌝ }
-{
-    let mut j = judge;
-    let mut taken = 0;
-    while taken < bytes.len() {
-        let judgement = j.judgement;
-        if !is_unanswered(judgement) {
-            return Hearing {
-                judge: j,
-                count: taken,
-            };
-        }
-        let reply = j.reply;
-        let n = run(reply, bytes.len() - taken);
-        if n == 0 {
-            j = hear_byte(j, bytes[taken]);
-            taken += 1;
-        } else {
-            let end = taken + n;
-            j = add(j, &bytes[taken..end]);
-            taken = end;
-        }
-    }
-    Hearing {
-        judge: j,
-        count: taken,
-    }
 }

@@ -1,15 +1,16 @@
 // The judge of replies: what the bytes that come back say to a request. No verdict is there until a reply gives one.
 mod hearing;
+mod taking;
 
 ghost use mathlib.Core.Path.{_≡_};
 ghost use Prim.Native.Nat.{_+_, _-_, _≤_};
 ghost use Rattle.host_judge.specs.Reply.{dueFor, readDue, judgementNumber};
 ghost use Rattle.host_judge.specs.Judge.{freshJudge, takenOf, sciIn, areaIn};
 use hearing::data_end;
-use hearing::hear;
 use hearing::place;
 use host_request::Request;
 use profile::Area;
+use taking::hear;
 
 // What a request was answered.
 pub enum Judgement {

@@ -14,7 +14,22 @@ use verdict::Verdict;
 
 // The total-erase code.
 const CODE: [u8; 16] = [
-    0x41, 0x4C, 0x65, 0x52, 0x41, 0x53, 0x45, 0xFF, 0xFF, 0xFF, 0xFF, 0xFF, 0xFF, 0xFF, 0xFF, 0xFF,
+    0x41,
+    0x4C,
+    0x65,
+    0x52,
+    0x41,
+    0x53,
+    0x45,
+    0xFF,
+    0xFF,
+    0xFF,
+    0xFF,
+    0xFF,
+    0xFF,
+    0xFF,
+    0xFF,
+    0xFF,
 ];
 
 // How many replies say each of the four.
@@ -236,13 +251,22 @@ fn hear(request: Request, bytes: &[u8]) {
 // The replies of the line examples, and those of a device that lost step.
 fn hear_lines() {
     print_title(b"replies");
-    hear(Request::Signature, b"\x81\x00\x0D\x3A\x03\x93\x87\x00\x00\x3D\x09\x00\x02\x01\x01\x00\x52\x03");
+    hear(
+        Request::Signature,
+        b"\x81\x00\x0D\x3A\x03\x93\x87\x00\x00\x3D\x09\x00\x02\x01\x01\x00\x52\x03",
+    );
     hear(Request::Inquiry, b"\x81\x00\x02\x00\x00\xFE\x03");
     hear(Request::Inquiry, b"\x81\x00\x02\x80\xC3\xBB\x03");
     hear(Request::Inquiry, b"\x81\x00\x02\x80\xC2\xBC\x03");
     hear(Request::Inquiry, b"\x81\x00\x02\x80\xC1\xBD\x03");
-    hear(Request::Erase(0x4000, 0x7FFF), b"\x81\x00\x02\x12\x00\xEC\x03");
-    hear(Request::Erase(0x4000, 0x7FFF), b"\x81\x00\x02\x80\xC1\xBD\x03");
+    hear(
+        Request::Erase(0x4000, 0x7FFF),
+        b"\x81\x00\x02\x12\x00\xEC\x03",
+    );
+    hear(
+        Request::Erase(0x4000, 0x7FFF),
+        b"\x81\x00\x02\x80\xC1\xBD\x03",
+    );
     hear(Request::Area(2), b"\x81\x00\x02\xBB\xD0\x73\x03");
     hear(Request::WriteData, b"\x81\x00\x02\x93\xE2\x89\x03");
     hear(Request::WriteData, b"\x81\x00\x02\x95\xC1\xA8\x03");
@@ -258,8 +282,14 @@ fn hear_noise() {
     hear(Request::Inquiry, b"");
     hear(Request::Inquiry, b"\x00\xC3\x01\x00\x01\x00\xFF\x03");
     hear(Request::Inquiry, b"\x00\xC3\x81\x00\x02\x00\x00\xFE\x03");
-    hear(Request::Inquiry, b"\x81\x00\x02\x00\x00\xFE\x03\x81\x00\x02\x00\x00\xFE\x03");
-    hear(Request::Inquiry, b"\x81\x00\x02\x12\x00\xEC\x03\x81\x00\x02\x00\x00\xFE\x03");
+    hear(
+        Request::Inquiry,
+        b"\x81\x00\x02\x00\x00\xFE\x03\x81\x00\x02\x00\x00\xFE\x03",
+    );
+    hear(
+        Request::Inquiry,
+        b"\x81\x00\x02\x12\x00\xEC\x03\x81\x00\x02\x00\x00\xFE\x03",
+    );
     hear(Request::Inquiry, b"\x81\x81\x00\x02\x00\x00\xFE\x03");
     hear(Request::Inquiry, b"\x81\x00\x00\x03");
     hear(Request::Inquiry, b"\x81\x04\x02\x03");
@@ -438,9 +468,19 @@ fn count_reply(name: &[u8], kind: &[u8], request: Request, reply: &mut [u8]) {
 // What grants the request, and D0h.
 fn count_request(name: &[u8], request: Request, data: &[u8]) {
     let mut reply = [0u8; 1030];
-    let n = numbers::lower(packet_reply::put_data(&mut reply, host_request::number(request), data), 1030);
+    let n = numbers::lower(
+        packet_reply::put_data(&mut reply, host_request::number(request), data),
+        1030,
+    );
     count_reply(name, b" granted", request, &mut reply[..n]);
-    let m = numbers::lower(packet_reply::put_status(&mut reply, host_request::number(request), Verdict::Refused(Reason::Reversed)), 1030);
+    let m = numbers::lower(
+        packet_reply::put_status(
+            &mut reply,
+            host_request::number(request),
+            Verdict::Refused(Reason::Reversed),
+        ),
+        1030,
+    );
     count_reply(name, b" refused", request, &mut reply[..m]);
 }
 
@@ -449,14 +489,26 @@ fn count_first() {
     count_request(b"erase", Request::Erase(0, 0x1FFF), b"\x00");
     count_request(b"write", Request::Write(0, 0x7F), b"\x00");
     count_request(b"read1", Request::Read(0, 0), b"\x00");
-    count_request(b"read16", Request::Read(0, 15), b"\x00\x01\x02\x03\x04\x05\x06\x07\x08\x09\x0A\x0B\x0C\x0D\x0E\x0F");
+    count_request(
+        b"read16",
+        Request::Read(0, 15),
+        b"\x00\x01\x02\x03\x04\x05\x06\x07\x08\x09\x0A\x0B\x0C\x0D\x0E\x0F",
+    );
     count_request(b"authenticate", Request::Authenticate, b"\x00");
 }
 
 fn count_second() {
     count_request(b"baud", Request::Baud(9600), b"\x00");
-    count_request(b"signature", Request::Signature, b"\x03\x93\x87\x00\x00\x3D\x09\x00\x02\x01\x01\x00");
-    count_request(b"area", Request::Area(1), b"\x02\x01\x00\x00\x00\x01\x00\x00\xFF\x00\x00\x00\x00\x00\x00\x00\x10");
+    count_request(
+        b"signature",
+        Request::Signature,
+        b"\x03\x93\x87\x00\x00\x3D\x09\x00\x02\x01\x01\x00",
+    );
+    count_request(
+        b"area",
+        Request::Area(1),
+        b"\x02\x01\x00\x00\x00\x01\x00\x00\xFF\x00\x00\x00\x00\x00\x00\x00\x10",
+    );
     count_request(b"write-data", Request::WriteData, b"\x00");
     count_request(b"next", Request::Next(3), b"\xAA\xBB\xCC");
 }

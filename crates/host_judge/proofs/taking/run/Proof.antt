@@ -1,12 +1,12 @@
--- `host_judge::hearing::run` meets its contract. Both tests lead to an empty run; otherwise it ends before ETX. Assumes nothing.
+-- `host_judge::taking::run` meets its contract. Both tests lead to an empty run; otherwise it ends before ETX. Assumes nothing.
 use mathlib.Core.Logic.{⊎-elim}
 use Prim.Native.Nat.{_+_}
 use native.Mathlib.Nat.{le-of-lt}
 use native.Mathlib.Omega.{arith}
 use borrow.Author.Needs.{needs}
 use borrow.Author.Tests.{leb-false, lt-ltb, le-ltb}
-use Rattle.host_judge.proofs.hearing.run.Statement.{statement}
-use Rattle.host_judge.proofs.hearing.run.Tie as tie
+use Rattle.host_judge.proofs.taking.run.Statement.{statement}
+use Rattle.host_judge.proofs.taking.run.Tie as tie
 
 returns : tie.Need-returns
 returns c = (

@@ -1,8 +1,8 @@
--- `host_judge::hearing::add` meets its contract. Sums modulo 256 may be taken in parts. Assumes nothing.
+-- `host_judge::taking::add` meets its contract. Sums modulo 256 may be taken in parts. Assumes nothing.
 use native.Mathlib.Nat.{add-mod-mod}
 use borrow.Author.Needs.{needs}
-use Rattle.host_judge.proofs.hearing.add.Statement.{statement}
-use Rattle.host_judge.proofs.hearing.add.Tie as tie
+use Rattle.host_judge.proofs.taking.add.Statement.{statement}
+use Rattle.host_judge.proofs.taking.add.Tie as tie
 
 returns : tie.Need-returns
 returns c = rw (c .before .wrapping-add-u8 .ensures, c .before .before .sum .ensures, add-mod-mod)

@@ -1,4 +1,4 @@
--- `host_judge::hearing::hear` meets its contract. The loop's invariant: hearing the rest from the judge so far is hearing all.
+-- `host_judge::taking::hear` meets its contract. The loop's invariant: hearing the rest from the judge so far is hearing all.
 -- The measure is what is left of the bytes. Assumes nothing.
 use mathlib.Core.Path.{sym, _∙_}
 use Prim.Native.Nat.{_-_, _<_}
@@ -7,8 +7,8 @@ use lib.ListN.{length, length-take}
 use borrow.Author.Needs.{needs}
 use borrow.Author.Tests.{not-true, not-false}
 use Rattle.host_judge.proofs.Runs.{HeardSo, none-heard, one-heard, run-taken, heard-to-end, heard-to-verdict}
-use Rattle.host_judge.proofs.hearing.hear.Statement.{statement}
-use Rattle.host_judge.proofs.hearing.hear.Tie as tie
+use Rattle.host_judge.proofs.taking.hear.Statement.{statement}
+use Rattle.host_judge.proofs.taking.hear.Tie as tie
 
 abbrev Inv-loop : tie.InvT-loop
 Inv-loop bytes j₀ taken₀ j taken = HeardSo j₀ bytes j taken
