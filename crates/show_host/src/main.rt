@@ -376,7 +376,8 @@ fn print_plan(plan: Plan) {
 }
 
 fn plan(sad: u32, ead: u32, unit: u32, count: usize) {
-    print_range(b"", sad, ead);
+    print_number(b"", sad as usize);
+    print_number(b" to ", ead as usize);
     print_number(b" by ", unit as usize);
     print_number(b", bytes ", count);
     print(b":");

@@ -282,8 +282,7 @@ fn show_plan(sad: u32, ead: u32, unit: u32, count: usize) {
         Err(Unplanned::EndUnaligned) => " end unaligned".into(),
         Err(Unplanned::WrongAmount) => " wrong amount".into(),
     };
-    // No word stands before the range, but its space does.
-    println!(" {sad} to {ead} by {unit}, bytes {count}:{said}");
+    println!("{sad} to {ead} by {unit}, bytes {count}:{said}");
 }
 
 fn plans() {
