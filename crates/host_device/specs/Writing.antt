@@ -31,14 +31,14 @@ pub record PassesOn (p : Profile) (m : Machine) (bytes : List ℕ) (s : Sending)
   pub passed : judgementOf (s .request) (sending p m (s .request) (pieceOf s bytes) .reply) ≡ Passed
 
 -- the machine behind a request of a plan
-abbrev pub behind : Profile → Machine → List ℕ → Sending → Machine
-behind p m bytes s = sending p m (s .request) (pieceOf s bytes) .machine
+abbrev pub machineBehind : Profile → Machine → List ℕ → Sending → Machine
+machineBehind p m bytes s = sending p m (s .request) (pieceOf s bytes) .machine
 
 -- a plan that was carried out to its end: so many packets, each of them passed, from one machine to another
 pub data CarriedOut (p : Profile) (bytes : List ℕ) : Plan → Machine → ℕ → Machine → Type 0 where
   all-sent : (plan : Plan) (m : Machine) → followingOf plan ≡ Done → CarriedOut p bytes plan m 0 m
   one-sent : (plan : Plan) (m after : Machine) (n : ℕ) (s : Sending) → followingOf plan ≡ Send s → PassesOn p m bytes s
-      → CarriedOut p bytes (s .rest) (behind p m bytes s) n after → CarriedOut p bytes plan m (suc n) after
+      → CarriedOut p bytes (s .rest) (machineBehind p m bytes s) n after → CarriedOut p bytes plan m (suc n) after
 
 -- a permitted write of these bytes into blank flash, to a device that awaits commands and holds nothing
 pub record Blank (p : Profile) (m : Machine) (s e : ℕ) (bytes : List ℕ) : Type 0 where

@@ -1,3 +1,9 @@
+pub mod Deciding
+pub mod Exactly
+pub mod Keeping
 pub mod OneByte
-pub mod Runs
 pub mod Passed
+pub mod Runs
+pub mod There
+pub mod Tracking
+pub mod Verdicts

@@ -1,3 +1,4 @@
 pub mod Reply
 pub mod Judge
 pub mod Runs
+pub mod Meaning

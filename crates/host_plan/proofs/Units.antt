@@ -17,7 +17,7 @@ use Rattle.host_plan.specs.declared.Plan.{Plan}
 use Rattle.host_plan.specs.declared.Sending.{Sending}
 use Rattle.host_plan.specs.declared.Planned.the-variants.{Is}
 use Rattle.host_plan.specs.Plan.{planChecks, sizeFor, wholePlan, planOf, sentUpTo, pieceEnd, commandOf, dataOf}
-use Rattle.host_plan.specs.Pieces.{SendsAll, nothing-left, one-more, Piece, AllPieces, joined, InPieces}
+use Rattle.host_plan.specs.Pieces.{SendsAll, nothing-left, one-more, Piece, AllPieces, piecesJoined, InPieces}
 use Rattle.host_plan.proofs.Laws.{plan-exactly, command-follows, data-follows, nothing-follows}
 
 -- a number is at most another, or above it
@@ -99,17 +99,17 @@ record RestInPieces (unit : ℕ) (plan : Plan) (bytes : List ℕ) : Type 0 where
   sent : List Sending
   ends : SendsAll plan sent
   units : AllPieces unit sent
-  all : joined sent bytes ≡ drop (plan .from) bytes
+  all : piecesJoined sent bytes ≡ drop (plan .from) bytes
 
 module _ (unit : ℕ) (bytes : List ℕ) (plan : Plan) (b : plan .begun ≡ true) where
   rest-over : plan .end ≡ length bytes → plan .end ≤ plan .from → RestInPieces unit plan bytes
-  unfolding AllPieces joined
+  unfolding AllPieces piecesJoined
   rest-over long l =
       let none : drop (plan .from) bytes ≡ [] = drop-of-length-le bytes {i = plan .from} (omega arith) in
       record { sent = []; ends = nothing-left plan (nothing-follows plan b l); units = tt; all = sym none }
 
   rest-more : InUnits unit plan → plan .from < plan .end → RestInPieces unit (sentUpTo (pieceEnd plan) plan) bytes → RestInPieces unit plan bytes
-  unfolding AllPieces joined
+  unfolding AllPieces piecesJoined
   rest-more u l r =
       let k : ℕ = pieceEnd plan - plan .from in
       let e : plan .from + k ≡ pieceEnd plan = omega arith in

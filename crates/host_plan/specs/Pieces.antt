@@ -25,14 +25,14 @@ unfoldable pub AllPieces : ℕ → List Sending → Type 0
 AllPieces unit [] = Unit {0}
 AllPieces unit (s ∷ more) = Piece unit s × AllPieces unit more
 
--- the data that goes with requests, joined in their order
-unfoldable pub joined : List Sending → List ℕ → List ℕ
-joined [] bytes = []
-joined (s ∷ more) bytes = pieceOf s bytes ++ joined more bytes
+-- the data that goes with requests, piecesJoined in their order
+unfoldable pub piecesJoined : List Sending → List ℕ → List ℕ
+piecesJoined [] bytes = []
+piecesJoined (s ∷ more) bytes = pieceOf s bytes ++ piecesJoined more bytes
 
 -- a plan comes to its end: the command, then all of the data, none twice, in pieces of whole units
 pub record InPieces (unit : ℕ) (plan : Plan) (bytes : List ℕ) : Type 0 where
   pub sent : List Sending
   pub ends : SendsAll plan (commandOf plan ∷ sent)
   pub units : AllPieces unit sent
-  pub all : joined sent bytes ≡ bytes
+  pub all : piecesJoined sent bytes ≡ bytes

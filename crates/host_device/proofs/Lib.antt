@@ -1,0 +1,12 @@
+pub mod Agreement
+pub mod Carried
+pub mod Examples
+pub mod Grants
+pub mod Known
+pub mod Replies
+pub mod Stored
+pub mod Taken
+pub mod Target
+pub mod Telling
+pub mod Whole
+pub mod Writing
