@@ -22,7 +22,7 @@ use Rattle.host_plan.specs.declared.Plan.{Plan}
 use Rattle.host_plan.specs.Plan.{wholePlan, sentUpTo, commandOf, sizeFor}
 use Rattle.host_plan.proofs.Laws.{plan-exactly, command-follows}
 use Rattle.host_device.specs.Agreement.{sending}
-use Rattle.host_device.specs.Writing.{PassesOn, behind, CarriedOut, one-sent, Blank, unitFor, partsOf, Within}
+use Rattle.host_device.specs.Writing.{PassesOn, machineBehind, CarriedOut, one-sent, Blank, unitFor, partsOf, Within}
 use Rattle.host_device.proofs.Whole.{unheld-is}
 use Rattle.host_device.proofs.Replies.{status-passes}
 use Rattle.host_device.proofs.Stored.{stored-none, blank-fetched, reads-stored, BlankFrom}
@@ -96,7 +96,7 @@ module _ (p : Profile) (m : Machine) (s e : ℕ) (bytes : List ℕ) (b : Blank p
   all-carried : CarriedOut p bytes plan m (suc (partsOf (length bytes) (sizeFor unit))) final
   all-carried =
       let n = partsOf (length bytes) (sizeFor unit) in
-      let leads : behind p start bytes (commandOf plan) ≡ begun = ap (λ (d : Delivery). d .machine) first-delivered in
+      let leads : machineBehind p start bytes (commandOf plan) ≡ begun = ap (λ (d : Delivery). d .machine) first-delivered in
       carried-as (sym start-is) refl refl
       (one-sent plan start final n (commandOf plan) (command-follows plan refl) command-passes (carried-as (sym leads) refl refl data-carried))
 
