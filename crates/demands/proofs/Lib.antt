@@ -10,3 +10,4 @@ pub mod Demand3
 pub mod Recordings
 pub mod Disk
 pub mod Outside
+pub mod Host

@@ -13,7 +13,7 @@ use Rattle.profile.specs.declared.Area.{Area as AreaFields}
 use Rattle.profile.specs.declared.Profile.{Profile}
 use Rattle.profile.specs.Areas.{noArea}
 use Rattle.profile_bytes.specs.Profile.{areaAt}
-use Rattle.profile_bytes.proofs.ProfileRoundTrip.{FormedArea}
+use Rattle.profile_bytes.specs.Formed.{FormedArea}
 use Rattle.packet.specs.declared.Kind.the-variants.{Command as CommandPacket, Data as DataPacket}
 use Rattle.packet.specs.Packet.{permitted, lengthOf, frame}
 use Rattle.packet.proofs.Laws.{impossible}

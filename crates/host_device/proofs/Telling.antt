@@ -4,10 +4,8 @@ use mathlib.Core.List.{List}
 use mathlib.Core.Logic.{_↔_}
 use mathlib.Core.Path.{_≡_, refl, sym, ap, _∙_}
 use Prim.Native.Nat.{ℕ}
-use Rattle.verdict.specs.declared.Reason.{Reason}
 use Rattle.verdict.specs.declared.Verdict.{Verdict}
 use Rattle.verdict.specs.declared.Verdict.the-variants.{Granted, Refused}
-use Rattle.verdict.specs.Code.{codeOf}
 use Rattle.profile.specs.declared.Profile.{Profile}
 use Rattle.packet.proofs.Laws.{impossible}
 use Rattle.device_steps.specs.Step.{Machine}
@@ -16,14 +14,8 @@ use Rattle.host_request.specs.Request.{packetFor}
 use Rattle.host_judge.specs.declared.Judgement.{Judgement}
 use Rattle.host_judge.specs.declared.Judgement.the-variants.{Passed, Refused as RefusedWith}
 use Rattle.host_judge.specs.Reply.{judgementOf}
-use Rattle.host_device.specs.Agreement.{Sent, verdictIn, toldAs, sending}
+use Rattle.host_device.specs.Agreement.{Sent, verdictIn, toldAs, RefusedFor, sending}
 use Rattle.host_device.proofs.Agreement.{agrees}
-
--- a refusal for a reason that has this code
-pub record RefusedFor (v : Verdict) (code : ℕ) : Type 0 where
-  pub reason : Reason
-  pub is : v ≡ Refused reason
-  pub coded : codeOf reason ≡ code
 
 -- only a grant is told as passed
 told-passed : (v : Verdict) → toldAs v ≡ Passed → v ≡ Granted
@@ -54,5 +46,5 @@ module _ (p : Profile) (m : Machine) (r : Request) (bytes : List ℕ) (s : Sent 
   passed-granted = (λ e. told-passed verdict (sym told ∙ e), λ e. told ∙ ap toldAs e)
 
   -- refused with a code exactly where the device refused for a reason that has it
-  pub refused-code : (code : ℕ) → (said ≡ RefusedWith code) ↔ RefusedFor verdict code
-  refused-code code = (λ e. told-refused verdict code (sym told ∙ e), λ f. told ∙ ap toldAs (f .is) ∙ ap RefusedWith (f .coded))
+  pub refused-for : (code : ℕ) → (said ≡ RefusedWith code) ↔ RefusedFor verdict code
+  refused-for code = (λ e. told-refused verdict code (sym told ∙ e), λ f. told ∙ ap toldAs (f .is) ∙ ap RefusedWith (f .coded))

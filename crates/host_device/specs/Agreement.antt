@@ -4,6 +4,7 @@ use mathlib.Core.Option.{none}
 use mathlib.Core.Path.{_≡_}
 use Prim.Native.Nat.{ℕ}
 use lib.ListN.{length}
+use Rattle.verdict.specs.declared.Reason.{Reason}
 use Rattle.verdict.specs.declared.Verdict.{Verdict}
 use Rattle.verdict.specs.declared.Verdict.the-variants.{Granted, Refused}
 use Rattle.verdict.specs.Check.{firstFault, verdictOf}
@@ -78,6 +79,12 @@ verdictIn p image st (Reading r) q = verdictOf (firstFault (nextChecks q))
 abbrev pub toldAs : Verdict → Judgement
 toldAs Granted = Passed
 toldAs (Refused reason) = RefusedWith (codeOf reason)
+
+-- a refusal for a reason that has this code
+pub record RefusedFor (v : Verdict) (code : ℕ) : Type 0 where
+  pub reason : Reason
+  pub is : v ≡ Refused reason
+  pub coded : codeOf reason ≡ code
 
 -- the delivery of a request's packet
 abbrev pub sending : Profile → Machine → Request → List ℕ → Delivery

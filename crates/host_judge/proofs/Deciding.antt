@@ -1,25 +1,25 @@
 -- Bytes from 81h on are part of a packet, or they decide; what decides stays when more bytes come. Assumes nothing.
-use mathlib.Core.Bool.{Bool, true, false, _&&_, not, cond}
+use mathlib.Core.Bool.{Bool, true, false, not, cond}
 use mathlib.Core.List.{List, [], _∷_, _++_, append-nil}
 use mathlib.Core.Logic.{_⊎_, inl, inr}
 use mathlib.Core.Path.{_≡_, refl, sym, ap, _∙_}
-use Prim.Native.Nat.{ℕ, _+_, _<_, _≤_}
+use Prim.Native.Nat.{ℕ, zero, suc, _+_, _<_, _≤_}
 use native.Mathlib.Omega.{arith}
 use lib.ListN.{length, take, drop, getD, length-append, take-append-drop, List·getD-append}
 use lib.Seq.{take-append-le, length-take-le, getD-take}
 use lib.Dec.{ltb, eqb}
 use borrow.Author.Tests.{eqb-true, eqb-false, ltb-true, ltb-false, eq-eqb, ne-eqb, le-ltb}
 use Rattle.packet.specs.declared.Kind.the-variants.{Data as DataPacket}
-use Rattle.packet.specs.declared.Progress.the-variants.{Astray, Partial, Unfit, Complete, Excess}
+use Rattle.packet.specs.declared.Progress.the-variants.{Partial, Unfit, Complete, Excess}
 use Rattle.packet.specs.Packet.{startOf, lengthOf, permitted, measuredOf, progressOf, endsWell}
 use Rattle.packet.proofs.Laws.{impossible}
 use Rattle.packet.proofs.Gathering.{partial, Whole, front-says}
-use Rattle.packet_fields.specs.Fields.{codeAt}
 use Rattle.host_request.specs.declared.Request.{Request}
 use Rattle.host_request.specs.Request.{numberFor}
 use Rattle.host_judge.specs.declared.Judgement.{Judgement}
 use Rattle.host_judge.specs.declared.Judgement.the-variants.{Unanswered, Passed, Refused, WrongReply}
 use Rattle.host_judge.specs.Reply.{isUnanswered, dueFor, grants, denies, judgedBy, fromMark, firstPacket, packetJudged, judgedAt, judgementOf}
+use Rattle.host_judge.specs.Meaning.{Quiet}
 
 -- the bytes from the first 81h on
 
@@ -45,6 +45,32 @@ mark-there (b ∷ bytes) h = by (eqb b (startOf DataPacket)) refl (mark-there by
     by true e later h = eqb-true b (startOf DataPacket) e
     by false e later h = later h
 
+-- what comes before them is noise
+pub record Skipped (bytes : List ℕ) : Type 0 where
+  pub noise : List ℕ
+  pub parts : bytes ≡ noise ++ fromMark bytes
+  pub quiet : Quiet noise
+
+-- one byte more of noise
+quiet-more : (b : ℕ) (noise : List ℕ) → (b ≡ startOf DataPacket → ⊥) → Quiet noise → Quiet (b ∷ noise)
+quiet-more b noise n h zero k z = n z
+quiet-more b noise n h (suc i) k z = h i (omega arith) z
+
+-- all bytes that were skipped
+pub skipped : (bytes : List ℕ) → Skipped bytes
+unfolding fromMark
+skipped [] = record { noise = []; parts = refl; quiet = λ i h z. omega arith }
+skipped (b ∷ bytes) = by (eqb b (startOf DataPacket)) refl (skipped bytes)
+  where
+    by : (t : Bool) → eqb b (startOf DataPacket) ≡ t → Skipped bytes → Skipped (b ∷ bytes)
+    by true e later = record { noise = []; parts = rw e refl; quiet = λ i h z. omega arith }
+    by false e later =
+        record {
+          noise = b ∷ later .noise;
+          parts = rw e (ap (λ (l : List ℕ). b ∷ l) (later .parts));
+          quiet = quiet-more b (later .noise) (eqb-false b (startOf DataPacket) e) (later .quiet);
+        }
+
 -- once or twice makes no difference, whatever comes behind
 pub mark-twice : (a b : List ℕ) → fromMark (fromMark a ++ b) ≡ fromMark (a ++ b)
 unfolding fromMark
@@ -56,6 +82,7 @@ mark-twice (x ∷ a) b = by (eqb x (startOf DataPacket)) refl (mark-twice a b)
     by true e later = rw e refl
     by false e later = later
 
+-- nor does once more, at the end
 pub mark-once : (a : List ℕ) → fromMark (fromMark a) ≡ fromMark a
 mark-once a = simp append-nil at (mark-twice a [])
 
@@ -75,6 +102,7 @@ abbrev pub frontJudged : Request → List ℕ → Judgement
 frontJudged r q = cond (permitted DataPacket (lengthOf q)) (packetJudged r (firstPacket q)) WrongReply
 
 module _ (r : Request) where
+  -- whether they are just a packet, or more
   pub judged-front : (q : List ℕ) → Decides q → judgedAt r q (progressOf DataPacket q) ≡ frontJudged r q
   unfolding progressOf measuredOf judgedAt
   judged-front q d =
@@ -89,7 +117,7 @@ module _ (r : Request) where
       by true true f = rw (f refl) refl
       by true false f = rw (f refl) refl
 
-  -- a verdict
+  -- and that is a verdict
   judged-answers : (n res first : ℕ) → isUnanswered (judgedBy r n res first) ≡ false
   unfolding judgedBy
   judged-answers n res first = by (grants (dueFor r) (numberFor r) n res first) (denies (numberFor r) n res first)
@@ -108,16 +136,18 @@ module _ (r : Request) where
       by true false v e = refl
       by true true v e = e
 
-  -- more bytes change neither
+  -- more bytes do not change it
   pub front-stays : (q more : List ℕ) → Decides q → frontJudged r (q ++ more) ≡ frontJudged r q
   front-stays q more d =
       rw (← front-says q more (d .long)) (by (permitted DataPacket (lengthOf q)) (d .full))
     where
       by : (fits : Bool) → (fits ≡ true → lengthOf q + 5 ≤ length q)
-          → cond fits (packetJudged r (take (lengthOf q + 5) (q ++ more))) WrongReply ≡ cond fits (packetJudged r (take (lengthOf q + 5) q)) WrongReply
+          → cond fits (packetJudged r (take (lengthOf q + 5) (q ++ more))) WrongReply
+          ≡ cond fits (packetJudged r (take (lengthOf q + 5) q)) WrongReply
       by false f = refl
       by true f = rw (take-append-le (lengthOf q + 5) q more (f refl)) refl
 
+-- nor that they decide
 pub decides-still : (q more : List ℕ) → Decides q → Decides (q ++ more)
 decides-still q more d =
     let l = length-append q more in
@@ -132,16 +162,16 @@ module _ (q : List ℕ) (d : Decides q) (p : permitted DataPacket (lengthOf q) �
   front-length : length (firstPacket q) ≡ lengthOf q + 5
   front-length = length-take-le (lengthOf q + 5) q (d .full p)
 
-  pub front-says-same : lengthOf (firstPacket q) ≡ lengthOf q
-  front-says-same =
+  pub front-says-as : lengthOf (firstPacket q) ≡ lengthOf q
+  front-says-as =
       front-says (firstPacket q) (drop (lengthOf q + 5) q) (omega (arith, front-length)) ∙ ap lengthOf (take-append-drop (lengthOf q + 5) q)
 
-  pub front-whole : Whole DataPacket (firstPacket q)
-  front-whole =
+  pub front-complete : Whole DataPacket (firstPacket q)
+  front-complete =
       record {
         start = getD-take (lengthOf q + 5) q 0 0 (omega arith) ∙ d .start;
-        permits = rw front-says-same p;
-        count = rw front-says-same front-length;
+        permits = rw front-says-as p;
+        count = rw front-says-as front-length;
       }
 
 -- bytes from 81h on are part of a packet, or they decide

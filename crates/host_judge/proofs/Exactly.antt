@@ -1,21 +1,21 @@
 -- Each verdict exactly: the bytes that it is the verdict on, said without the judge. Assumes nothing.
 use mathlib.Core.Bool.{Bool, true, false, _&&_, not, cond, and-false}
-use mathlib.Core.List.{List, [], _∷_, _++_, append-assoc}
-use mathlib.Core.Logic.{_⊎_, inl, inr, ⊎-elim, _↔_}
+use mathlib.Core.List.{List, [], _∷_, _++_}
+use mathlib.Core.Logic.{⊎-elim, _↔_}
 use mathlib.Core.Path.{_≡_, refl, sym, ap, subst, _∙_}
-use Prim.Native.Nat.{ℕ, zero, suc, _+_, _-_, _<_, _≤_, min}
+use Prim.Native.Nat.{ℕ, suc, _+_, _-_, _<_, _≤_}
 use native.Mathlib.Omega.{arith}
 use lib.ListN.{length, take, drop, getD, length-drop, take-append-drop, List·getD-append}
-use lib.Seq.{take-all, take-append-seam, drop-append-seam, getD-take, getD-drop}
+use lib.Seq.{take-all, take-at, take-append-seam, drop-append-seam, getD-take, getD-drop}
 use lib.Dec.{eqb}
 use borrow.Author.Tests.{eqb-true, eqb-false, eq-eqb, ne-eqb, le-leb, not-true}
-use Rattle.numbers.specs.Bytes.{AllBytes}
+use Rattle.numbers.specs.Bytes.{number, AllBytes}
 use Rattle.numbers.proofs.RoundTrip.{all-drop, all-take}
 use Rattle.packet.specs.declared.Kind.the-variants.{Data as DataPacket}
-use Rattle.packet.specs.declared.Progress.the-variants.{Partial, Unfit, Complete}
+use Rattle.packet.specs.declared.Progress.the-variants.{Partial, Complete}
 use Rattle.packet.specs.Packet.{startOf, lengthOf, permitted, progressOf, endsWell, contentsOf, frame}
 use Rattle.packet.proofs.Laws.{impossible, both, permitted-least}
-use Rattle.packet.proofs.Gathering.{Whole, whole, complete, unfit, front-says}
+use Rattle.packet.proofs.Gathering.{Whole, held, whole, complete, front-says}
 use Rattle.packet.proofs.Frames.{frame-complete, frame-ends-well, frame-contents, whole-frame}
 use Rattle.packet.proofs.There.{contents-whole}
 use Rattle.packet_fields.specs.Fields.{codeAt}
@@ -27,9 +27,10 @@ use Rattle.host_judge.specs.declared.Due.{Due}
 use Rattle.host_judge.specs.declared.Due.the-variants.{Status, Data, Nothing}
 use Rattle.host_judge.specs.declared.Judgement.{Judgement}
 use Rattle.host_judge.specs.declared.Judgement.the-variants.{Unanswered, Passed, Refused, WrongReply}
-use Rattle.host_judge.specs.Reply.{judgementNumber, isUnanswered, readDue, dueFor, grants, denies, judgedBy, fromMark, firstPacket, packetJudged, judgedAt, judgementOf}
-use Rattle.host_judge.specs.Meaning.{Quiet, FirstPacket, Granting, GrantIn, RefusalIn, FirstGrants, FirstRefuses, FirstWrong, unfit-length, wrong-end, other-contents, Means}
-use Rattle.host_judge.proofs.Deciding.{mark-first, mark-skips, Decides, frontJudged, front-answers, front-stays, decides-still, front-whole, says-open, says-front, open-or-front}
+use Rattle.host_judge.specs.Reply.{judgementNumber, isUnanswered, dueFor, grants, denies, judgedBy, fromMark, firstPacket, packetJudged, judgementOf}
+use Rattle.host_judge.specs.Meaning.{Quiet, FirstPacket, OnlyPart, Granting, GrantIn, RefusalIn, FirstGrants, FirstRefuses, FirstWrong, unfit-length, wrong-end, other-contents, Means}
+use Rattle.host_judge.proofs.Deciding.{mark-first, mark-skips, skipped, Decides, frontJudged, front-answers, front-stays, decides-still, front-complete, says-open, says-front, open-or-front}
+use Rattle.host_judge.proofs.Keeping.{length-bytes}
 use Rattle.host_judge.proofs.There.{due-range}
 use Rattle.host_judge.proofs.Tracking.{judged-alike}
 
@@ -40,43 +41,41 @@ from-quiet : (noise l : List ℕ) → Quiet noise → fromMark (noise ++ l) ≡ 
 from-quiet [] l h = refl
 from-quiet (b ∷ noise) l h = mark-skips b (noise ++ l) (h 0 (omega arith)) ∙ from-quiet noise l (λ i k. h (suc i) (omega arith))
 
+-- part of a packet starts with 81h
+part-mark : (q : List ℕ) → progressOf DataPacket q ≡ Partial → fromMark q ≡ q
+unfolding fromMark
+part-mark [] p = refl
+part-mark (b ∷ q) p = mark-first (b ∷ q) (held DataPacket (b ∷ q) p .start (omega arith))
+
+-- so the bytes from 81h on start with the first packet, and what they start with comes first
 pub from-first : (bytes q : List ℕ) (f : FirstPacket bytes q) → 0 < length q → getD q 0 0 ≡ startOf DataPacket → fromMark bytes ≡ q ++ f .more
 from-first bytes q f some start =
     ap fromMark (f .parts)
     ∙ from-quiet (f .noise) (q ++ f .more) (f .quiet)
     ∙ mark-first (q ++ f .more) (List·getD-append q (f .more) 0 0 some ∙ start)
 
--- one byte more of it
-quiet-more : (b : ℕ) (noise : List ℕ) → (b ≡ startOf DataPacket → ⊥) → Quiet noise → Quiet (b ∷ noise)
-quiet-more b noise n h zero k z = n z
-quiet-more b noise n h (suc i) k z = h i (omega arith) z
-
--- what comes before it
 pub first-from : (bytes q more : List ℕ) → fromMark bytes ≡ q ++ more → FirstPacket bytes q
-unfolding fromMark
-first-from [] q more e = record { noise = []; more = more; parts = e; quiet = λ i h z. omega arith }
-first-from (b ∷ bytes) q more e = by (eqb b (startOf DataPacket)) refl (first-from bytes q more) e
-  where
-    by : (t : Bool) → eqb b (startOf DataPacket) ≡ t → (fromMark bytes ≡ q ++ more → FirstPacket bytes q)
-        → cond t (b ∷ bytes) (fromMark bytes) ≡ q ++ more → FirstPacket (b ∷ bytes) q
-    by true e later p = record { noise = []; more = more; parts = p; quiet = λ i h z. omega arith }
-    by false e later p =
-        let f = later p in
-        record {
-          noise = b ∷ f .noise;
-          more = f .more;
-          parts = ap (λ (l : List ℕ). b ∷ l) (f .parts);
-          quiet = quiet-more b (f .noise) (eqb-false b (startOf DataPacket) e) (f .quiet);
-        }
+first-from bytes q more e =
+    let s = skipped bytes in
+    record { noise = s .noise; more = more; parts = s .parts ∙ ap (λ (l : List ℕ). s .noise ++ l) e; quiet = s .quiet }
 
--- a whole packet by its contents
+-- a whole packet that comes first is the packet at the front from 81h on
+pub first-packet : (bytes q : List ℕ) → FirstPacket bytes q → Whole DataPacket q → firstPacket (fromMark bytes) ≡ q
+first-packet bytes q f w =
+    let m : fromMark bytes ≡ q ++ f .more = from-first bytes q f (omega (arith, w .count)) (w .start) in
+    let l : lengthOf (q ++ f .more) ≡ lengthOf q = sym (front-says q (f .more) (omega (arith, w .count))) in
+    ap firstPacket m ∙ rw l (take-at q (f .more) (lengthOf q + 5) (w .count))
+
+-- the verdict on a whole packet, by its contents
 abbrev contentsJudged : Request → List ℕ → Judgement
 contentsJudged r contents = judgedBy r (length contents) (getD contents 0 0) (getD contents 1 0)
 
 module _ (r : Request) (q : List ℕ) (e : progressOf DataPacket q ≡ Complete) where
+  -- an entry of the contents
   contents-at : (i : ℕ) → i < lengthOf q → getD (contentsOf q) i 0 ≡ getD q (3 + i) 0
   contents-at i h = getD-take (lengthOf q) (drop 3 q) i 0 h ∙ getD-drop 3 q i 0
 
+  -- ETX and SUM before them
   whole-judged : packetJudged r q ≡ cond (endsWell q) (contentsJudged r (contentsOf q)) WrongReply
   unfolding packetJudged
   whole-judged =
@@ -90,24 +89,22 @@ module _ (r : Request) (q : List ℕ) (e : progressOf DataPacket q ≡ Complete)
       by false z = judged-alike r (lengthOf q) (codeAt q) _ _ (eqb-false (lengthOf q) 2 z)
       by true z = ap (judgedBy r (lengthOf q) (codeAt q)) (sym (contents-at 1 (omega (arith, eqb-true (lengthOf q) 2 z))))
 
-module _ (r : Request) (bytes q : List ℕ) (f : FirstPacket bytes q) (e : progressOf DataPacket q ≡ Complete) where
-  whole-decides : Decides q
-  whole-decides =
-      let w = whole DataPacket q e in
-      record { long = omega (arith, w .count); start = w .start; full = λ p. omega (arith, w .count) }
+-- what decides is what comes first
+first-decides : (r : Request) (bytes q : List ℕ) → FirstPacket bytes q → Decides q → judgementOf r bytes ≡ frontJudged r q
+first-decides r bytes q f d =
+    let m : fromMark bytes ≡ q ++ f .more = from-first bytes q f (omega (arith, d .long)) (d .start) in
+    says-front r bytes (rw m (decides-still q (f .more) d)) ∙ ap (frontJudged r) m ∙ front-stays r q (f .more) d
 
-  -- where it comes first, it decides
-  first-judged : judgementOf r bytes ≡ cond (endsWell q) (contentsJudged r (contentsOf q)) WrongReply
-  first-judged =
-      let w = whole DataPacket q e in
-      let m : fromMark bytes ≡ q ++ f .more = from-first bytes q f (omega (arith, w .count)) (w .start) in
-      let t : take (lengthOf q + 5) q ≡ q = take-all (lengthOf q + 5) q (omega (arith, w .count)) in
-      says-front r bytes (rw m (decides-still q (f .more) whole-decides))
-      ∙ ap (frontJudged r) m
-      ∙ front-stays r q (f .more) whole-decides
-      ∙ rw (w .permits, t) (whole-judged r q e)
+-- a whole packet, by ETX, SUM and contents
+first-judged : (r : Request) (bytes q : List ℕ) → FirstPacket bytes q → progressOf DataPacket q ≡ Complete
+    → judgementOf r bytes ≡ cond (endsWell q) (contentsJudged r (contentsOf q)) WrongReply
+first-judged r bytes q f e =
+    let w = whole DataPacket q e in
+    let t : take (lengthOf q + 5) q ≡ q = take-all (lengthOf q + 5) q (omega (arith, w .count)) in
+    first-decides r bytes q f (record { long = omega (arith, w .count); start = w .start; full = λ p. omega (arith, w .count) })
+    ∙ rw (w .permits, t) (whole-judged r q e)
 
--- so does a good packet, by its contents
+-- a good packet, by its contents
 frame-judged : (r : Request) (bytes contents : List ℕ) → FirstPacket bytes (frame DataPacket contents) → permitted DataPacket (length contents) ≡ true
     → judgementOf r bytes ≡ contentsJudged r contents
 frame-judged r bytes contents f p =
@@ -116,10 +113,12 @@ frame-judged r bytes contents f p =
 
 -- bytes that decide, in three cases
 data Came (bytes : List ℕ) : Type 0 where
-  unfit-came : progressOf DataPacket (fromMark bytes) ≡ Unfit → Came bytes
+  unfit-came : (high low : ℕ) → FirstPacket bytes (startOf DataPacket ∷ high ∷ low ∷ []) → permitted DataPacket (number (high ∷ low ∷ [])) ≡ false
+      → Came bytes
   bad-came : (q : List ℕ) → FirstPacket bytes q → progressOf DataPacket q ≡ Complete → endsWell q ≡ false → Came bytes
   good-came : (contents : List ℕ) → FirstPacket bytes (frame DataPacket contents) → permitted DataPacket (length contents) ≡ true → Came bytes
 
+-- bytes from 81h on are bytes
 mark-bytes : (bytes : List ℕ) → AllBytes bytes → AllBytes (fromMark bytes)
 unfolding fromMark AllBytes
 mark-bytes [] all = tt
@@ -129,8 +128,16 @@ mark-bytes (b ∷ bytes) all = by (eqb b (startOf DataPacket)) (mark-bytes bytes
     by true later = all
     by false later = later
 
-came : (bytes : List ℕ) → AllBytes bytes → Decides (fromMark bytes) → Came bytes
-came bytes all d = by (permitted DataPacket (lengthOf (fromMark bytes))) refl
+-- a list from its first three on
+three-of : (l : List ℕ) → 3 ≤ length l → l ≡ getD l 0 0 ∷ getD l 1 0 ∷ getD l 2 0 ∷ drop 3 l
+three-of [] h = absurd (omega arith)
+three-of (x ∷ []) h = absurd (omega arith)
+three-of (x ∷ y ∷ []) h = absurd (omega arith)
+three-of (x ∷ y ∷ z ∷ l) h = refl
+
+-- bytes that decide are in one of the cases
+came-as : (bytes : List ℕ) → AllBytes bytes → Decides (fromMark bytes) → Came bytes
+came-as bytes all d = by (permitted DataPacket (lengthOf (fromMark bytes))) refl
   where
     q : List ℕ
     q = firstPacket (fromMark bytes)
@@ -143,13 +150,18 @@ came bytes all d = by (permitted DataPacket (lengthOf (fromMark bytes))) refl
     by-end : progressOf DataPacket q ≡ Complete → (well : Bool) → endsWell q ≡ well → Came bytes
     by-end c false e = bad-came q first c e
     by-end c true e =
-        let k : q ≡ frame DataPacket (contentsOf q) = whole-frame DataPacket q (all-take (lengthOf (fromMark bytes) + 5) (fromMark bytes) (mark-bytes bytes all)) c e in
+        let b : AllBytes q = all-take (lengthOf (fromMark bytes) + 5) (fromMark bytes) (mark-bytes bytes all) in
+        let k : q ≡ frame DataPacket (contentsOf q) = whole-frame DataPacket q b c e in
         let p : permitted DataPacket (length (contentsOf q)) ≡ true = rw (contents-whole DataPacket q c) (whole DataPacket q c .permits) in
         good-came (contentsOf q) (subst (FirstPacket bytes) k first) p
 
     by : (fits : Bool) → permitted DataPacket (lengthOf (fromMark bytes)) ≡ fits → Came bytes
-    by false p = unfit-came (unfit DataPacket (fromMark bytes) (d .long) (d .start) p)
-    by true p = by-end (complete DataPacket q (front-whole (fromMark bytes) d p)) (endsWell q) refl
+    by false p =
+        let m : List ℕ = fromMark bytes in
+        let h : m ≡ (startOf DataPacket ∷ getD m 1 0 ∷ getD m 2 0 ∷ []) ++ drop 3 m = three-of m (d .long) ∙ rw (d .start) refl in
+        let f = first-from bytes (startOf DataPacket ∷ getD m 1 0 ∷ getD m 2 0 ∷ []) (drop 3 m) h in
+        unfit-came (getD m 1 0) (getD m 2 0) f (rw (← length-bytes m (d .long)) p)
+    by true p = by-end (complete DataPacket q (front-complete (fromMark bytes) d p)) (endsWell q) refl
 
 -- contents that grant or refuse
 
@@ -173,11 +185,13 @@ grantsIn due number contents = grants due number (length contents) (getD content
 abbrev deniesIn : ℕ → List ℕ → Bool
 deniesIn number contents = denies number (length contents) (getD contents 0 0) (getD contents 1 0)
 
+-- contents that grant what is due to a number
 record Behind (due : Due) (number : ℕ) (contents : List ℕ) : Type 0 where
   behind : List ℕ
   is : contents ≡ number ∷ behind
   meets : Granting due behind
 
+-- a list of two, and one of at least one, by its entries
 two-of : (contents : List ℕ) → length contents ≡ 2 → contents ≡ getD contents 0 0 ∷ getD contents 1 0 ∷ []
 two-of [] e = absurd (omega arith)
 two-of (x ∷ []) e = absurd (omega arith)
@@ -188,6 +202,7 @@ one-of : (contents : List ℕ) (n : ℕ) → length contents ≡ n + 1 → conte
 one-of [] n e = absurd (omega arith)
 one-of (x ∷ l) n e = refl
 
+-- the test says that they do, passes those that do, and fails under another RES
 grants-told : (due : Due) (number : ℕ) (contents : List ℕ) → grantsIn due number contents ≡ true → Behind due number contents
 unfolding grants
 grants-told Status number contents e =
@@ -226,10 +241,12 @@ module _ (r : Request) (contents : List ℕ) where
   abbrev no-test : Bool
   no-test = deniesIn (numberFor r) contents
 
+  -- the verdict by the two tests
   judged-tests : contentsJudged r contents ≡ cond yes-test Passed (cond no-test (Refused (getD contents 1 0)) WrongReply)
   unfolding judgedBy
   judged-tests = refl
 
+  -- passed
   contents-granted : contentsJudged r contents ≡ Passed → GrantIn r contents
   contents-granted e = by yes-test refl no-test (sym judged-tests ∙ e)
     where
@@ -243,6 +260,7 @@ module _ (r : Request) (contents : List ℕ) where
   granted-contents : GrantIn r contents → contentsJudged r contents ≡ Passed
   granted-contents g = judged-tests ∙ rw (g .is, grants-so (dueFor r) (numberFor r) (g .behind) (g .due)) refl
 
+  -- refused
   denied : (code : ℕ) → no-test ≡ true → code ≡ getD contents 1 0 → RefusalIn r code contents
   unfolding denies
   denied code t e =
@@ -270,6 +288,7 @@ module _ (r : Request) (contents : List ℕ) where
       let m : ℕ = marked (numberFor r) in
       judged-tests ∙ rw (g .is) (rw (n, eq-eqb m m refl, ne-eqb code 0 (g .some)) refl)
 
+  -- a wrong reply
   neither-contents : (GrantIn r contents → ⊥) → ((code : ℕ) → RefusalIn r code contents → ⊥) → contentsJudged r contents ≡ WrongReply
   neither-contents no-grant no-refusal = by yes-test refl no-test refl
     where
@@ -278,12 +297,22 @@ module _ (r : Request) (contents : List ℕ) where
       by false t true n = absurd (no-refusal (getD contents 1 0) (denied (getD contents 1 0) n refl))
       by false t false n = judged-tests ∙ rw (t, n) refl
 
+-- what a first packet that was passed has in it
+pub passed-contents : (r : Request) (bytes q : List ℕ) → FirstPacket bytes q → progressOf DataPacket q ≡ Complete → judgementOf r bytes ≡ Passed
+    → GrantIn r (contentsOf q)
+passed-contents r bytes q f c e = by (endsWell q) (sym (first-judged r bytes q f c) ∙ e)
+  where
+    by : (well : Bool) → cond well (contentsJudged r (contentsOf q)) WrongReply ≡ Passed → GrantIn r (contentsOf q)
+    by true e = contents-granted r (contentsOf q) e
+    by false e = impossible (cc)
+
 -- contents of a permitted length
 few-permitted : (n : ℕ) → 1 ≤ n → n ≤ 1025 → permitted DataPacket n ≡ true
 unfolding permitted
 few-permitted n h k = rw (le-leb 1 n h, le-leb n 1025 k) refl
 
-grant-permitted : (r : Request) (contents : List ℕ) → GrantIn r contents → permitted DataPacket (length contents) ≡ true
+-- so are those that grant or refuse
+pub grant-permitted : (r : Request) (contents : List ℕ) → GrantIn r contents → permitted DataPacket (length contents) ≡ true
 grant-permitted r contents g = by (dueFor r) refl (g .due)
   where
     by : (due : Due) → dueFor r ≡ due → Granting due (g .behind) → permitted DataPacket (length contents) ≡ true
@@ -297,6 +326,7 @@ refusal-permitted r code contents g = rw (g .is) (few-permitted 2 (omega arith) 
 -- the verdicts
 
 module _ (r : Request) (bytes : List ℕ) where
+  -- a verdict is given to bytes that decide
   decided-bytes : (v : Judgement) → isUnanswered v ≡ false → judgementOf r bytes ≡ v → Decides (fromMark bytes)
   decided-bytes v n e = ⊎-elim by (λ d. d) (open-or-front r bytes)
     where
@@ -305,12 +335,21 @@ module _ (r : Request) (bytes : List ℕ) where
           let u : isUnanswered v ≡ true = ap isUnanswered (sym e ∙ says-open r bytes p) in
           impossible (cc)
 
-  unfit-judged : progressOf DataPacket (fromMark bytes) ≡ Unfit → judgementOf r bytes ≡ WrongReply
-  unfolding judgementOf judgedAt
-  unfit-judged p = rw p refl
+  -- a length that is refused, and a wrong end
+  unfit-judged : (high low : ℕ) → FirstPacket bytes (startOf DataPacket ∷ high ∷ low ∷ []) → permitted DataPacket (number (high ∷ low ∷ [])) ≡ false
+      → judgementOf r bytes ≡ WrongReply
+  unfolding lengthOf
+  unfit-judged high low f p =
+      let q : List ℕ = startOf DataPacket ∷ high ∷ low ∷ [] in
+      first-decides r bytes q f (record { long = omega arith; start = refl; full = λ t. impossible (cc) }) ∙ rw p refl
 
   bad-judged : (q : List ℕ) → FirstPacket bytes q → progressOf DataPacket q ≡ Complete → endsWell q ≡ false → judgementOf r bytes ≡ WrongReply
   bad-judged q f c e = first-judged r bytes q f c ∙ rw e refl
+
+  -- a grant that comes first is passed
+  pub grant-passes : FirstGrants r bytes → judgementOf r bytes ≡ Passed
+  grant-passes g =
+      frame-judged r bytes (g .contents) (g .first) (grant-permitted r (g .contents) (g .grant)) ∙ granted-contents r (g .contents) (g .grant)
 
   -- nothing is answered: there is no 81h, or from the first on there is part of a packet
   pub unanswered-exactly : (judgementOf r bytes ≡ Unanswered) ↔ (progressOf DataPacket (fromMark bytes) ≡ Partial)
@@ -321,27 +360,33 @@ module _ (r : Request) (bytes : List ℕ) where
           let u : true ≡ false = ap isUnanswered (sym e ∙ says-front r bytes d) ∙ front-answers r (fromMark bytes) in
           impossible (cc)
 
+  -- the same, of the bytes themselves
+  pub unanswered-part : (judgementOf r bytes ≡ Unanswered) ↔ OnlyPart bytes
+  unanswered-part = (λ e. by (unanswered-exactly .0 e), λ o. unanswered-exactly .1 (back o))
+    where
+      by : progressOf DataPacket (fromMark bytes) ≡ Partial → OnlyPart bytes
+      by p = let s = skipped bytes in record { noise = s .noise; held = fromMark bytes; parts = s .parts; quiet = s .quiet; part = p }
+
+      back : OnlyPart bytes → progressOf DataPacket (fromMark bytes) ≡ Partial
+      back o = rw (ap fromMark (o .parts) ∙ from-quiet (o .noise) (o .held) (o .quiet) ∙ part-mark (o .held) (o .part)) (o .part)
+
   module _ (all : AllBytes bytes) where
     -- passed: a good packet comes first, RES is the request's number, and what is due stands behind it
     pub passed-exactly : (judgementOf r bytes ≡ Passed) ↔ FirstGrants r bytes
-    passed-exactly = (λ e. by e (came bytes all (decided-bytes Passed refl e)), back)
+    passed-exactly = (λ e. by e (came-as bytes all (decided-bytes Passed refl e)), grant-passes)
       where
         by : judgementOf r bytes ≡ Passed → Came bytes → FirstGrants r bytes
-        by e (unfit-came p) = let w = unfit-judged p in impossible (cc)
+        by e (unfit-came high low f p) = let w = unfit-judged high low f p in impossible (cc)
         by e (bad-came q f c x) = let w = bad-judged q f c x in impossible (cc)
         by e (good-came contents f p) =
             record { contents = contents; first = f; grant = contents-granted r contents (sym (frame-judged r bytes contents f p) ∙ e) }
 
-        back : FirstGrants r bytes → judgementOf r bytes ≡ Passed
-        back g =
-            frame-judged r bytes (g .contents) (g .first) (grant-permitted r (g .contents) (g .grant)) ∙ granted-contents r (g .contents) (g .grant)
-
     -- refused: a good packet comes first, RES is the request's number with bit 7, and a code that is not 0 is all behind it
     pub refused-exactly : (code : ℕ) → (judgementOf r bytes ≡ Refused code) ↔ FirstRefuses r code bytes
-    refused-exactly code = (λ e. by e (came bytes all (decided-bytes (Refused code) refl e)), back)
+    refused-exactly code = (λ e. by e (came-as bytes all (decided-bytes (Refused code) refl e)), back)
       where
         by : judgementOf r bytes ≡ Refused code → Came bytes → FirstRefuses r code bytes
-        by e (unfit-came p) = let w = unfit-judged p in impossible (cc)
+        by e (unfit-came high low f p) = let w = unfit-judged high low f p in impossible (cc)
         by e (bad-came q f c x) = let w = bad-judged q f c x in impossible (cc)
         by e (good-came contents f p) =
             record { contents = contents; first = f; refusal = contents-refused r contents code (sym (frame-judged r bytes contents f p) ∙ e) }
@@ -353,10 +398,10 @@ module _ (r : Request) (bytes : List ℕ) where
 
     -- a wrong reply: its length is refused, its end is wrong, or it is a good packet that neither grants nor refuses
     pub wrong-exactly : (judgementOf r bytes ≡ WrongReply) ↔ FirstWrong r bytes
-    wrong-exactly = (λ e. by e (came bytes all (decided-bytes WrongReply refl e)), back)
+    wrong-exactly = (λ e. by e (came-as bytes all (decided-bytes WrongReply refl e)), back)
       where
         by : judgementOf r bytes ≡ WrongReply → Came bytes → FirstWrong r bytes
-        by e (unfit-came p) = unfit-length p
+        by e (unfit-came high low f p) = unfit-length high low f p
         by e (bad-came q f c x) = wrong-end q f c x
         by e (good-came contents f p) =
             let w : contentsJudged r contents ≡ WrongReply = sym (frame-judged r bytes contents f p) ∙ e in
@@ -365,13 +410,13 @@ module _ (r : Request) (bytes : List ℕ) where
             (λ code g. let v = refused-contents r contents code g in impossible (cc))
 
         back : FirstWrong r bytes → judgementOf r bytes ≡ WrongReply
-        back (unfit-length p) = unfit-judged p
+        back (unfit-length high low f p) = unfit-judged high low f p
         back (wrong-end q f c x) = bad-judged q f c x
         back (other-contents contents f p n m) = frame-judged r bytes contents f p ∙ neither-contents r contents n m
 
     -- each verdict is given to the bytes that it means, and to no others
     pub means-exactly : (v : Judgement) → (judgementOf r bytes ≡ v) ↔ Means r bytes v
-    means-exactly Unanswered = unanswered-exactly
+    means-exactly Unanswered = unanswered-part
     means-exactly Passed = passed-exactly
     means-exactly (Refused code) = refused-exactly code
     means-exactly WrongReply = wrong-exactly
@@ -402,6 +447,7 @@ refused-code r bytes all code e =
 judgementBack : ℕ → Judgement
 judgementBack n = cond (eqb n 0) Unanswered (cond (eqb n 1) Passed (cond (eqb n 2) WrongReply (Refused (n - 256))))
 
+-- no other has it
 number-back-again : (v : Judgement) → judgementBack (judgementNumber v) ≡ v
 unfolding judgementBack
 number-back-again Unanswered = refl

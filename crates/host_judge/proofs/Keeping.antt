@@ -1,5 +1,5 @@
 -- What a reply's record keeps of the bytes from 81h on: their count, the length, RES, and the first seventeen of the data. Assumes nothing.
-use mathlib.Core.Bool.{Bool, true, false, _&&_, cond}
+use mathlib.Core.Bool.{Bool, true, false, cond}
 use mathlib.Core.List.{List, [], _∷_, _++_}
 use mathlib.Core.Path.{_≡_, refl, sym, ap, _∙_}
 use Prim.Native.Nat.{ℕ, zero, suc, _+_, _-_, _<_, _≤_, min}
@@ -7,10 +7,10 @@ use native.Mathlib.Omega.{arith}
 use lib.ListN.{length, take, drop, getD, set, length-append, length-take, length-drop, length-set, getD-replicate, List·getD-append, List·getD-eq-default}
 use lib.Seq.{take-append-le, drop-append-le, getD-take, getD-drop, take-nil, getD-set-same, getD-set-other}
 use lib.Dec.{leb, ltb, eqb, eqb·zero-suc, eqb·suc-zero, eqb·suc-suc}
-use borrow.Author.Tests.{eqb-true, eqb-false, eq-eqb, ne-eqb, leb-true, ltb-true, ltb-false, le-leb, lt-ltb, le-ltb}
+use borrow.Author.Tests.{eqb-true, eqb-false, eq-eqb, ne-eqb, leb-true, ltb-true, ltb-false, le-leb, lt-ltb}
 use Rattle.numbers.specs.Bytes.{number}
 use Rattle.packet.specs.Packet.{lengthOf}
-use Rattle.packet.proofs.Laws.{impossible, both}
+use Rattle.packet.proofs.Laws.{both}
 use Rattle.host_judge.specs.declared.Reply.{Reply}
 use Rattle.host_judge.specs.Judge.{noReply, lengthIn, dataEnd, withCount, isKept, grown}
 
@@ -62,6 +62,7 @@ front-at k l i = by (ltb i k) refl
 data-at : (q : List ℕ) (i : ℕ) → getD (dataIn q) i 0 ≡ cond (ltb i (lengthBytes q - 1)) (getD q (4 + i) 0) 0
 data-at q i = front-at (lengthBytes q - 1) (drop 4 q) i ∙ ap (λ (x : ℕ). cond (ltb i (lengthBytes q - 1)) x 0) (getD-drop 4 q i 0)
 
+-- one that came
 pub data-there : (q : List ℕ) (i : ℕ) → i < lengthBytes q - 1 → getD (dataIn q) i 0 ≡ getD q (4 + i) 0
 data-there q i h = data-at q i ∙ rw (lt-ltb i (lengthBytes q - 1) h) refl
 
@@ -87,24 +88,26 @@ keeps-none =
 pub keeps-mark : (b : ℕ) (y : Reply) → Keeps [] y → Keeps (b ∷ []) (withCount 1 y)
 keeps-mark b y k = record { count = refl; high = k .high; low = k .low; res = k .res; first = k .first; room = k .room }
 
+-- whatever the test says
 either-zero : (t : Bool) → _≡_ {A = ℕ} (cond t 0 0) 0
 either-zero true = refl
 either-zero false = refl
 
 module _ (q : List ℕ) (y : Reply) (k : Keeps q y) where
-  pub length-kept : lengthIn y ≡ lengthBytes q
-  length-kept = rw (k .high, k .low) refl
+  -- what its length bytes say
+  pub length-told : lengthIn y ≡ lengthBytes q
+  length-told = rw (k .high, k .low) refl
 
   -- a byte that is one of the first seventeen of the data, and one that is not
   kept-place : isKept y ≡ true → (4 ≤ length q) × (length q < 4 + (lengthBytes q - 1))
   kept-place e =
       let t = both (leb 4 (y .count)) (ltb (y .count) (min (dataEnd y) 21)) e in
-      (omega (arith, k .count, leb-true 4 (y .count) (t .0)), omega (arith, k .count, length-kept, ltb-true (y .count) (min (dataEnd y) 21) (t .1)))
+      (omega (arith, k .count, leb-true 4 (y .count) (t .0)), omega (arith, k .count, length-told, ltb-true (y .count) (min (dataEnd y) 21) (t .1)))
 
   kept-not : isKept y ≡ false → 4 ≤ length q → length q < 21 → 4 + (lengthBytes q - 1) ≤ length q
   kept-not e h s =
       let c : 4 ≤ y .count = omega (arith, k .count) in
-      omega (arith, k .count, length-kept, ltb-false (y .count) (min (dataEnd y) 21) (rw (le-leb 4 (y .count) c) at e))
+      omega (arith, k .count, length-told, ltb-false (y .count) (min (dataEnd y) 21) (rw (le-leb 4 (y .count) c) at e))
 
   module _ (b : ℕ) where
     -- an entry of the data that the byte is not
@@ -132,6 +135,7 @@ module _ (q : List ℕ) (y : Reply) (k : Keeps q y) where
     past-first : (i : ℕ) → i < 17 → length q ≡ 4 + i → lengthBytes q - 1 ≤ i → getD (y .first) i 0 ≡ getD (dataIn (q ++ b ∷ [])) i 0
     past-first i s e h = k .first i s ∙ sym (ap (λ (l : List ℕ). getD l i 0) (data-stays q (b ∷ []) (omega arith)))
 
+    -- any entry
     grown-first : (i : ℕ) → i < 17 → (kept : Bool) → isKept y ≡ kept → (own : Bool) → eqb (length q) (4 + i) ≡ own
         → getD (cond kept (set (y .first) (y .count - 4) b) (y .first)) i 0 ≡ getD (dataIn (q ++ b ∷ [])) i 0
     grown-first i h false e false o = other-first i h (eqb-false (length q) (4 + i) o)
@@ -148,6 +152,7 @@ module _ (q : List ℕ) (y : Reply) (k : Keeps q y) where
         let l : i < length (y .first) = omega (arith, k .room) in
         rw m (getD-set-same (y .first) i b 0 l ∙ own-first i x (omega (arith, kept-place e .1)))
 
+    -- a byte that SUM counts
     pub keeps-more : Keeps (q ++ b ∷ []) (grown y b)
     unfolding grown
     keeps-more =
@@ -170,7 +175,7 @@ module _ (q : List ℕ) (y : Reply) (k : Keeps q y) where
         let n = length-append q (b ∷ []) in
         let d : dataIn (q ++ b ∷ []) ≡ dataIn q = data-stays q (b ∷ []) (omega arith) in
         record {
-          count = omega (arith, length-kept);
+          count = omega (arith, length-told);
           high = k .high ∙ sym (List·getD-append q (b ∷ []) 0 1 (omega arith));
           low = k .low ∙ sym (List·getD-append q (b ∷ []) 0 2 (omega arith));
           res = k .res ∙ sym (List·getD-append q (b ∷ []) 0 3 (omega arith));

@@ -1,3 +1,4 @@
+pub mod Collected
 pub mod Deciding
 pub mod Exactly
 pub mod Keeping

@@ -42,6 +42,7 @@ read-range left n e = by (eqb left 0) refl e
     by true t e = impossible (cc)
     by false t e = let k : n ≡ min left longestData = cc in (omega (arith, eqb-false left 0 t), omega arith)
 
+-- whatever the request
 pub due-range : (r : Request) (n : ℕ) → dueFor r ≡ Data n → (1 ≤ n) × (n ≤ longestData)
 due-range Inquiry n e = impossible (cc)
 due-range (Erase s l) n e = impossible (cc)
@@ -61,6 +62,7 @@ grants-one Status number res first h = refl
 grants-one (Data n) number res first h = rw (ne-eqb 1 (n + 1) (λ z. h (ap Data (omega arith)))) refl
 grants-one Nothing number res first h = refl
 
+-- nor does it for any request, since no request is due no data
 pub first-there : (r : Request) (res first : ℕ) → (grants (dueFor r) (numberFor r) 1 res first ≡ false) × (denies (numberFor r) 1 res first ≡ false)
 unfolding denies
 first-there r res first = (grants-one (dueFor r) (numberFor r) res first (λ e. omega (arith, due-range r 0 e .0)), refl)

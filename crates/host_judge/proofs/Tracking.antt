@@ -1,33 +1,32 @@
 -- The judge byte by byte: what it knows is what the bytes from 81h on say, and its verdict is theirs. Assumes nothing.
-use mathlib.Core.Bool.{Bool, true, false, _&&_, _||_, not, cond}
+use mathlib.Core.Bool.{Bool, true, false, _&&_, not, cond}
 use mathlib.Core.List.{List, [], _∷_, _++_}
 use mathlib.Core.Path.{_≡_, refl, sym, ap, _∙_}
 use Prim.Native.Nat.{ℕ, _+_, _-_, _%_, _<_, _≤_}
 use native.Mathlib.Omega.{arith}
-use lib.ListN.{length, take, drop, getD, length-append, length-drop, List·getD-append}
-use lib.Seq.{take-at, take-all, drop-append-le, getD-at, getD-drop, getD-take}
-use lib.Dec.{leb, ltb, eqb}
-use borrow.Author.Tests.{leb-true, leb-false, eqb-true, eqb-false, eq-eqb, ne-eqb, le-leb, lt-leb, le-ltb, not-true, not-false}
+use lib.ListN.{length, drop, getD, length-append, length-drop, List·getD-append}
+use lib.Seq.{take-at, take-all, drop-append-le, getD-at}
+use lib.Dec.{leb, eqb}
+use borrow.Author.Tests.{leb-true, leb-false, eqb-true, eqb-false, eq-eqb, ne-eqb, le-leb, le-ltb, not-true, not-false}
 use Rattle.verdict.specs.declared.Reason.the-variants.{WrongEtx, WrongSum}
 use Rattle.verdict.specs.Check.{_gives_, firstFault, passes}
 use Rattle.packet.specs.declared.Kind.the-variants.{Data as DataPacket}
-use Rattle.packet.specs.declared.Progress.the-variants.{Astray, Partial, Unfit, Complete, Excess}
+use Rattle.packet.specs.declared.Progress.the-variants.{Partial, Unfit, Complete}
 use Rattle.packet.specs.Packet.{startOf, lengthOf, permitted, progressOf, sumOf, etxOf, summed, endingChecks, endsWell}
 use Rattle.packet.proofs.Laws.{impossible, both}
-use Rattle.packet.proofs.Gathering.{Held, held, partial, Whole, complete, unfit, front-says}
+use Rattle.packet.proofs.Gathering.{held, partial, Whole, complete, unfit, front-says}
 use Rattle.packet_fields.specs.Fields.{codeAt}
 use Rattle.host_request.specs.declared.Request.{Request}
 use Rattle.host_request.specs.Request.{numberFor}
 use Rattle.host_judge.specs.declared.Due.{Due}
 use Rattle.host_judge.specs.declared.Due.the-variants.{Status, Data, Nothing}
-use Rattle.host_judge.specs.declared.Judgement.{Judgement}
-use Rattle.host_judge.specs.declared.Judgement.the-variants.{Unanswered, Passed, Refused, WrongReply}
+use Rattle.host_judge.specs.declared.Judgement.the-variants.{Unanswered, WrongReply}
 use Rattle.host_judge.specs.declared.Reply.{Reply}
 use Rattle.host_judge.specs.declared.Judge.{Judge}
-use Rattle.host_judge.specs.Reply.{isUnanswered, dueFor, grants, denies, judgedBy, fromMark, firstPacket, packetJudged, judgedAt}
+use Rattle.host_judge.specs.Reply.{dueFor, grants, denies, judgedBy, fromMark, firstPacket, packetJudged, judgedAt}
 use Rattle.host_judge.specs.Judge.{freshJudge, lengthIn, withCount, grown, begun, advanced, lastJudged, finished, heardByte}
-use Rattle.host_judge.proofs.Deciding.{mark-first, mark-there}
-use Rattle.host_judge.proofs.Keeping.{lengthBytes, dataIn, Keeps, length-bytes, keeps-none, keeps-mark, length-kept, keeps-more, keeps-last, data-there}
+use Rattle.host_judge.proofs.Deciding.{mark-first}
+use Rattle.host_judge.proofs.Keeping.{lengthBytes, Keeps, length-bytes, keeps-none, keeps-mark, length-told, keeps-more, keeps-last, data-there}
 
 -- a judge of a request, the bytes from 81h on that it took being q
 pub record Tracks (r : Request) (q : List ℕ) (j : Judge) : Type 0 where
@@ -45,10 +44,12 @@ tracks-none r = record { request = refl; says = refl; start = refl; most = omega
 
 -- 81h or noise, where nothing came before
 module _ (r : Request) (j : Judge) (t : Tracks r [] j) (b : ℕ) where
+  -- the byte is looked at alone
   heard-none : heardByte j b ≡ begun j b
   unfolding heardByte
   heard-none = rw (eq-eqb (j .reply .count) 0 (t .keeps .count)) refl
 
+  -- by whether it is 81h
   begun-tracks : (m : Bool) → eqb b (startOf DataPacket) ≡ m
       → Tracks r (cond m (b ∷ []) []) (record { request = j .request; judgement = j .judgement; reply = cond m (withCount 1 (j .reply)) (j .reply) })
   unfolding judgedAt progressOf sumOf
@@ -66,6 +67,7 @@ module _ (r : Request) (j : Judge) (t : Tracks r [] j) (b : ℕ) where
         sum = λ p. t .sum refl;
       }
 
+  -- either way
   tracks-first : Tracks r (fromMark (b ∷ [])) (heardByte j b)
   unfolding fromMark
   tracks-first = rw heard-none (begun-tracks (eqb b (startOf DataPacket)) refl)
@@ -94,6 +96,7 @@ grants-alike Status number n res first other h = rw (ne-eqb n 2 h) refl
 grants-alike (Data count) number n res first other h = refl
 grants-alike Nothing number n res first other h = refl
 
+-- for the verdict too
 pub judged-alike : (r : Request) (n res first other : ℕ) → (n ≡ 2 → ⊥) → judgedBy r n res first ≡ judgedBy r n res other
 unfolding judgedBy denies
 judged-alike r n res first other h = rw (ne-eqb n 2 h, grants-alike (dueFor r) (numberFor r) n res first other h) refl
@@ -106,6 +109,7 @@ sum-more (x ∷ l) b = omega (arith, sum-more l b)
 
 -- a byte behind 81h
 module _ (r : Request) (q : List ℕ) (j : Judge) (t : Tracks r q j) (some : 1 ≤ length q) (part : progressOf DataPacket q ≡ Partial) (b : ℕ) where
+  -- it comes behind 81h, and nothing is decided
   started : getD q 0 0 ≡ startOf DataPacket
   started = held DataPacket q part .start some
 
@@ -123,27 +127,31 @@ module _ (r : Request) (q : List ℕ) (j : Judge) (t : Tracks r q j) (some : 1 �
   abbrev isLast : Bool
   isLast = leb 3 (j .reply .count) && leb (lengthIn (j .reply) + 4) (j .reply .count)
 
+  -- which it is says what becomes of it
   heard-by : (last : Bool) → isLast ≡ last → heardByte j b ≡ cond last (finished j b) (advanced j (grown (j .reply) b))
   unfolding heardByte
   heard-by last e =
       let z : j .reply .count ≡ 0 → ⊥ = λ z. omega (arith, t .keeps .count) in
       rw (ne-eqb (j .reply .count) 0 z, e) refl
 
+  -- its place, and that of any other
   last-place : isLast ≡ true → (3 ≤ length q) × (length q ≡ lengthBytes q + 4)
   last-place e =
       let c = t .keeps .count in
+      let n = length-told q (j .reply) (t .keeps) in
       let x = both (leb 3 (j .reply .count)) (leb (lengthIn (j .reply) + 4) (j .reply .count)) e in
       let l : 3 ≤ length q = omega (arith, leb-true 3 (j .reply .count) (x .0)) in
-      let m : lengthBytes q + 4 ≤ length q = omega (arith, leb-true (lengthIn (j .reply) + 4) (j .reply .count) (x .1), length-kept q (j .reply) (t .keeps)) in
+      let m : lengthBytes q + 4 ≤ length q = omega (arith, leb-true (lengthIn (j .reply) + 4) (j .reply .count) (x .1)) in
       (l, omega (arith, held DataPacket q part .count l, length-bytes q l))
 
   last-not : isLast ≡ false → 3 ≤ length q → length q < lengthBytes q + 4
   last-not e l =
       let c = t .keeps .count in
+      let n = length-told q (j .reply) (t .keeps) in
       let h : 3 ≤ j .reply .count = omega arith in
-      omega (arith, leb-false (lengthIn (j .reply) + 4) (j .reply .count) (rw (le-leb 3 (j .reply .count) h) at e), length-kept q (j .reply) (t .keeps))
+      omega (arith, leb-false (lengthIn (j .reply) + 4) (j .reply .count) (rw (le-leb 3 (j .reply .count) h) at e))
 
-  -- the same, as the packet's length
+  -- where the length came before it, it stays
   module _ (l : 3 ≤ length q) where
     says-more : lengthOf (q ++ b ∷ []) ≡ lengthBytes q
     says-more = sym (front-says q (b ∷ []) l) ∙ length-bytes q l
@@ -153,11 +161,13 @@ module _ (r : Request) (q : List ℕ) (j : Judge) (t : Tracks r q j) (some : 1 �
 
   -- ETX
   module _ (last : isLast ≡ true) where
+    -- the packet is whole
     whole-last : Whole DataPacket (q ++ b ∷ [])
     whole-last =
         let l = last-place last in
         record { start = start-more; permits = permits-more (l .0); count = omega (arith, longer, l .1, says-more (l .0)) }
 
+    -- what is kept of the byte behind RES judges as that byte does
     first-last : (n res : ℕ) → n ≡ lengthBytes q → judgedBy r n res (getD (j .reply .first) 0 0) ≡ judgedBy r n res (getD (q ++ b ∷ []) 4 0)
     first-last n res e = by (eqb n 2) refl
       where
@@ -169,14 +179,16 @@ module _ (r : Request) (q : List ℕ) (j : Judge) (t : Tracks r q j) (some : 1 �
             ap (judgedBy r n res)
             (t .keeps .first 0 (omega arith) ∙ data-there q 0 h ∙ sym (List·getD-append q (b ∷ []) 0 4 (omega arith)))
 
+    -- so the verdict is the packet's
     judged-last : lastJudged j b ≡ packetJudged r (q ++ b ∷ [])
     unfolding packetJudged
     judged-last =
         let l = last-place last in
-        let n : lengthIn (j .reply) ≡ lengthOf (q ++ b ∷ []) = length-kept q (j .reply) (t .keeps) ∙ sym (says-more (l .0)) in
+        let n : lengthIn (j .reply) ≡ lengthOf (q ++ b ∷ []) = length-told q (j .reply) (t .keeps) ∙ sym (says-more (l .0)) in
         let c : j .reply .res ≡ codeAt (q ++ b ∷ []) = t .keeps .res ∙ sym (List·getD-append q (b ∷ []) 0 3 (omega arith)) in
         rw (t .sum part, ends-tests q b some, t .request, n, c, first-last (lengthOf (q ++ b ∷ [])) (codeAt (q ++ b ∷ [])) (says-more (l .0))) refl
 
+    -- what the judge knows then
     tracks-last : Tracks r (q ++ b ∷ []) (finished j b)
     unfolding judgedAt
     tracks-last =
@@ -194,6 +206,7 @@ module _ (r : Request) (q : List ℕ) (j : Judge) (t : Tracks r q j) (some : 1 �
 
   -- any other
   module _ (not-last : isLast ≡ false) where
+    -- what is kept then
     abbrev next : Reply
     next = grown (j .reply) b
 
@@ -205,12 +218,13 @@ module _ (r : Request) (q : List ℕ) (j : Judge) (t : Tracks r q j) (some : 1 �
     next-sum = rw (drop-append-le 1 q (b ∷ []) some) (omega (arith, t .sum part, sum-more (drop 1 q) b))
 
     next-says : 3 ≤ length (q ++ b ∷ []) → lengthIn next ≡ lengthOf (q ++ b ∷ [])
-    next-says l = length-kept (q ++ b ∷ []) next next-keeps ∙ sym (length-bytes (q ++ b ∷ []) l)
+    next-says l = length-told (q ++ b ∷ []) next next-keeps ∙ sym (length-bytes (q ++ b ∷ []) l)
 
     -- the length is there, and is refused
     abbrev isBad : Bool
     isBad = eqb (next .count) 3 && not (permitted DataPacket (lengthIn next))
 
+    -- then it decides, and otherwise the packet is still not whole
     bad-unfit : isBad ≡ true → progressOf DataPacket (q ++ b ∷ []) ≡ Unfit
     bad-unfit e =
         let x = both (eqb (next .count) 3) (not (permitted DataPacket (lengthIn next))) e in
@@ -247,6 +261,7 @@ module _ (r : Request) (q : List ℕ) (j : Judge) (t : Tracks r q j) (some : 1 �
             omega (arith, longer, last-not not-last m, says-more m, length-bytes (q ++ b ∷ []) (omega (arith, longer)))
         by false l = omega (arith, longer, leb-false 3 (length q) l)
 
+    -- what the judge knows then, in both cases
     tracks-next : Tracks r (q ++ b ∷ []) (advanced j next)
     unfolding judgedAt
     tracks-next =
@@ -263,6 +278,7 @@ module _ (r : Request) (q : List ℕ) (j : Judge) (t : Tracks r q j) (some : 1 �
         by true e = rw (bad-unfit e) refl
         by false e = rw (still-part e) undecided
 
+  -- whichever it is
   tracks-some : Tracks r (q ++ b ∷ []) (heardByte j b)
   tracks-some = by isLast refl
     where

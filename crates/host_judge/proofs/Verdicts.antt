@@ -1,8 +1,8 @@
 -- The judge that takes bytes as they come says what the definition says of all of them, however they are cut; it takes all bytes up to the one that
 -- decides. Assumes nothing.
 use mathlib.Core.Bool.{Bool, true, false, _&&_, cond}
-use mathlib.Core.List.{List, [], _∷_, _++_, append-assoc, append-nil}
-use mathlib.Core.Logic.{_⊎_, inl, inr, ⊎-elim}
+use mathlib.Core.List.{List, [], _∷_, _++_, append-nil}
+use mathlib.Core.Logic.{⊎-elim}
 use mathlib.Core.Path.{_≡_, refl, sym, ap, _∙_}
 use Prim.Native.Nat.{ℕ, zero, suc, _+_, _<_, _≤_}
 use native.Mathlib.Nat.{zero-add}
@@ -19,7 +19,7 @@ use Rattle.host_request.specs.declared.Request.{Request}
 use Rattle.host_judge.specs.declared.Judgement.{Judgement}
 use Rattle.host_judge.specs.declared.Judgement.the-variants.{Unanswered, Passed, Refused, WrongReply}
 use Rattle.host_judge.specs.declared.Judge.{Judge}
-use Rattle.host_judge.specs.Reply.{isUnanswered, fromMark, judgedAt, judgementOf}
+use Rattle.host_judge.specs.Reply.{isUnanswered, fromMark, judgementOf}
 use Rattle.host_judge.specs.Judge.{freshJudge, lengthIn, begun, advanced, finished, grown, heardByte, Heard, hearingOf}
 use Rattle.host_judge.specs.Meaning.{joined, judgeAfter}
 use Rattle.host_judge.proofs.Deciding.{mark-twice, Decides, frontJudged, judged-front, front-answers, front-stays, decides-still, part-or-decides, mark-append, says-open, says-front, open-or-front}
@@ -27,6 +27,7 @@ use Rattle.host_judge.proofs.Tracking.{Tracks, tracks-none, tracks-byte
 
 -- hearing bytes, one after the other
 
+-- what the test says
 pub unanswered-so : (v : Judgement) → isUnanswered v ≡ true → v ≡ Unanswered
 unanswered-so Unanswered e = refl
 unanswered-so Passed e = impossible (cc)
@@ -56,11 +57,13 @@ unfolding hearingOf
 judge-cut j [] b = refl
 judge-cut j (x ∷ a) b = by (isUnanswered (j .judgement)) refl (judge-cut (heardByte j x) a b)
   where
-    by : (t : Bool) → isUnanswered (j .judgement) ≡ t → hearingOf (heardByte j x) (a ++ b) .judge ≡ hearingOf (hearingOf (heardByte j x) a .judge) b .judge
+    by : (t : Bool) → isUnanswered (j .judgement) ≡ t
+        → hearingOf (heardByte j x) (a ++ b) .judge ≡ hearingOf (hearingOf (heardByte j x) a .judge) b .judge
         → hearingOf j (x ∷ a ++ b) .judge ≡ hearingOf (hearingOf j (x ∷ a) .judge) b .judge
     by true e later = rw (judge-next j x (a ++ b) e, judge-next j x a e) later
     by false e later = rw (taken-none j (x ∷ a ++ b) e, taken-none j (x ∷ a) e, taken-none j b e) refl
 
+-- nor for how many are taken
 pub count-cut : (j : Judge) (a b : List ℕ) → hearingOf j (a ++ b) .count ≡ hearingOf j a .count + hearingOf (hearingOf j a .judge) b .count
 unfolding hearingOf
 count-cut j [] b = sym (zero-add (hearingOf j b .count))
@@ -72,7 +75,7 @@ count-cut j (x ∷ a) b = by (isUnanswered (j .judgement)) refl (count-cut (hear
     by true e later = rw (judge-next j x a e) (omega (arith, count-next j x (a ++ b) e, count-next j x a e))
     by false e later = rw (taken-none j (x ∷ a ++ b) e, taken-none j (x ∷ a) e, taken-none j b e) refl
 
--- nor do several cuts
+-- several cuts make none
 pub judge-cuts : (j : Judge) (cuts : List (List ℕ)) → judgeAfter j cuts ≡ hearingOf j (joined cuts) .judge
 unfolding judgeAfter joined hearingOf
 judge-cuts j [] = refl
@@ -116,7 +119,7 @@ taken-first j (b ∷ bytes) n h = by (isUnanswered (j .judgement)) refl n h (tak
     by true e (suc n) h later = rw (judge-next j b (take n bytes) e) (later n (omega (arith, count-next j b bytes e)))
     by false e n h later = absurd (omega (arith, ap (λ (x : Heard). x .count) (taken-none j (b ∷ bytes) e)))
 
--- hearing never changes the request
+-- a byte never changes the request
 request-next : (j : Judge) (b : ℕ) → heardByte j b .request ≡ j .request
 unfolding heardByte
 request-next j b =
@@ -127,6 +130,7 @@ request-next j b =
     by false true = refl
     by false false = refl
 
+-- nor do many bytes
 pub request-kept : (j : Judge) (bytes : List ℕ) → hearingOf j bytes .judge .request ≡ j .request
 unfolding hearingOf
 request-kept j [] = refl
@@ -169,7 +173,8 @@ tracks-taken r q j t (b ∷ bytes) = by (isUnanswered (j .judgement)) refl (λ s
   where
     by : (u : Bool) → isUnanswered (j .judgement) ≡ u
         → (Tracks r (fromMark (q ++ b ∷ [])) (heardByte j b)
-        → Tracks r (fromMark (fromMark (q ++ b ∷ []) ++ take (hearingOf (heardByte j b) bytes .count) bytes)) (hearingOf (heardByte j b) bytes .judge))
+        → Tracks r (fromMark (fromMark (q ++ b ∷ []) ++ take (hearingOf (heardByte j b) bytes .count) bytes))
+        (hearingOf (heardByte j b) bytes .judge))
         → Tracks r (fromMark (q ++ take (hearingOf j (b ∷ bytes) .count) (b ∷ bytes))) (hearingOf j (b ∷ bytes) .judge)
     by true e later =
         let n : ℕ = hearingOf (heardByte j b) bytes .count in
@@ -199,3 +204,7 @@ judge-says r bytes = by (isUnanswered said) refl
         let d : judgementOf r (take count bytes) ≡ Unanswered → ⊥ =
         λ z. let u : isUnanswered said ≡ true = ap isUnanswered (taken ∙ z) in impossible (cc) in
         taken ∙ sym (once-answered r (take count bytes) (drop count bytes) d) ∙ ap (judgementOf r) (take-append-drop count bytes)
+
+-- so is the verdict of a judge that was given them in cuts
+pub cuts-say : (r : Request) (cuts : List (List ℕ)) → judgeAfter (freshJudge r) cuts .judgement ≡ judgementOf r (joined cuts)
+cuts-say r cuts = ap (λ (j : Judge). j .judgement) (judge-cuts (freshJudge r) cuts) ∙ judge-says r (joined cuts)

@@ -5,8 +5,9 @@ use mathlib.Core.List.{List, [], _∷_, _++_}
 use mathlib.Core.Path.{_≡_}
 use Prim.Native.Nat.{ℕ, _-_, _<_}
 use lib.ListN.{length, take, drop, getD}
+use Rattle.numbers.specs.Bytes.{number}
 use Rattle.packet.specs.declared.Kind.the-variants.{Data as DataPacket}
-use Rattle.packet.specs.declared.Progress.the-variants.{Partial, Unfit, Complete}
+use Rattle.packet.specs.declared.Progress.the-variants.{Partial, Complete}
 use Rattle.packet.specs.Packet.{startOf, permitted, progressOf, endsWell, frame}
 use Rattle.packet_reply.specs.Reply.{marked}
 use Rattle.host_request.specs.declared.Request.{Request}
@@ -17,7 +18,7 @@ use Rattle.host_judge.specs.declared.Judgement.{Judgement}
 use Rattle.host_judge.specs.declared.Judgement.the-variants.{Unanswered, Passed, Refused, WrongReply}
 use Rattle.host_judge.specs.declared.Judge.{Judge}
 use Rattle.host_judge.specs.declared.Taken.{Taken}
-use Rattle.host_judge.specs.Reply.{dueFor, fromMark}
+use Rattle.host_judge.specs.Reply.{dueFor}
 use Rattle.host_judge.specs.Judge.{takenOf}
 
 -- bytes without 81h
@@ -30,6 +31,14 @@ pub record FirstPacket (bytes q : List ℕ) : Type 0 where
   pub more : List ℕ
   pub parts : bytes ≡ noise ++ (q ++ more)
   pub quiet : Quiet noise
+
+-- no packet but part of one: behind the noise there is nothing, or its first bytes
+pub record OnlyPart (bytes : List ℕ) : Type 0 where
+  pub noise : List ℕ
+  pub held : List ℕ
+  pub parts : bytes ≡ noise ++ held
+  pub quiet : Quiet noise
+  pub part : progressOf DataPacket held ≡ Partial
 
 -- what stands behind RES where a reply grants a request
 abbrev pub Granting : Due → List ℕ → Type 0
@@ -61,14 +70,15 @@ pub record FirstRefuses (r : Request) (code : ℕ) (bytes : List ℕ) : Type 0 w
 -- what comes first is no reply to the request: a packet whose length is outside its range; one that is whole and ends wrong; a good packet of
 -- other contents
 pub data FirstWrong (r : Request) (bytes : List ℕ) : Type 0 where
-  unfit-length : progressOf DataPacket (fromMark bytes) ≡ Unfit → FirstWrong r bytes
+  unfit-length : (high low : ℕ) → FirstPacket bytes (startOf DataPacket ∷ high ∷ low ∷ []) → permitted DataPacket (number (high ∷ low ∷ [])) ≡ false
+      → FirstWrong r bytes
   wrong-end : (q : List ℕ) → FirstPacket bytes q → progressOf DataPacket q ≡ Complete → endsWell q ≡ false → FirstWrong r bytes
   other-contents : (contents : List ℕ) → FirstPacket bytes (frame DataPacket contents) → permitted DataPacket (length contents) ≡ true
       → (GrantIn r contents → ⊥) → ((code : ℕ) → RefusalIn r code contents → ⊥) → FirstWrong r bytes
 
 -- what each verdict says of the bytes
 abbrev pub Means : Request → List ℕ → Judgement → Type 0
-Means r bytes Unanswered = progressOf DataPacket (fromMark bytes) ≡ Partial
+Means r bytes Unanswered = OnlyPart bytes
 Means r bytes Passed = FirstGrants r bytes
 Means r bytes (Refused code) = FirstRefuses r code bytes
 Means r bytes WrongReply = FirstWrong r bytes
@@ -87,6 +97,6 @@ judgeAfter j (cut ∷ cuts) = judgeAfter (takenOf j cut .judge) cuts
 abbrev pub partTold : Taken → List ℕ → List ℕ
 partTold t cut = take (t .to - t .from) (drop (t .from) cut)
 
-unfoldable pub dataTold : Judge → List (List ℕ) → List ℕ
-dataTold j [] = []
-dataTold j (cut ∷ cuts) = partTold (takenOf j cut) cut ++ dataTold (takenOf j cut .judge) cuts
+unfoldable pub collectedFrom : Judge → List (List ℕ) → List ℕ
+collectedFrom j [] = []
+collectedFrom j (cut ∷ cuts) = partTold (takenOf j cut) cut ++ collectedFrom (takenOf j cut .judge) cuts

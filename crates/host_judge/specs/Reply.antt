@@ -49,8 +49,8 @@ dueFor (Area n) = Data 17
 dueFor WriteData = Status
 dueFor (Next left) = readDue left
 
--- a reply by its length, RES and the byte behind RES: it grants a request of this number, to which that is due. Data is not judged. The 0 for
--- no byte behind RES never decides: proofs/There, `first-there`
+-- a reply by its length, RES and the byte behind RES: it grants a request of this number, to which that is due. Data is not judged. What
+-- stands for a byte behind RES that is not there never decides: proofs/There, `first-there`
 unfoldable pub grants : Due → ℕ → ℕ → ℕ → ℕ → Bool
 grants Status number n res first = eqb n 2 && (eqb res number && eqb first 0x00)
 grants (Data count) number n res first = eqb n (count + 1) && eqb res number

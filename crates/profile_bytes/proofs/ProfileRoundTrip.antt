@@ -12,17 +12,11 @@ use Rattle.profile.specs.declared.Profile.{Profile}
 use Rattle.packet_messages.specs.Messages.{areaMessage}
 use Rattle.packet_fields.specs.Fields.{fourAt, bytesFrom}
 use Rattle.profile_bytes.specs.Profile.{areaAt, areasFrom, fieldsIn, profileIn, tableBytes, profileBytes}
+use Rattle.profile_bytes.specs.Formed.{FormedArea}
 use Rattle.packet_fields.proofs.Spelled.{spelled}
 use Rattle.packet_fields.proofs.FieldLaws.{two-back, four-back, back-two, back-four, from-append}
 
 -- numbers within their widths
-pub record FormedArea (a : Area) : Type 0 where
-  pub koa : a .koa < 256
-  pub sad : a .sad < 4294967296
-  pub ead : a .ead < 4294967296
-  pub eau : a .eau < 4294967296
-  pub wau : a .wau < 4294967296
-
 unfoldable pub FormedTable : List Area → Type 0
 FormedTable [] = Unit {0}
 FormedTable (a ∷ more) = FormedArea a × FormedTable more
