@@ -1,0 +1,3 @@
+pub mod Put
+pub mod Widths
+pub mod RoundTrip
