@@ -9,19 +9,12 @@ use lib.ListN.{length}
 use lib.Dec.{eqb}
 use borrow.Author.Tests.{eqb-true, eqb-false}
 use Rattle.host_request.specs.declared.Request.{Request}
-use Rattle.host_judge.specs.Judge.{freshJudge}
 use Rattle.host_bytes.specs.declared.RequestIn.{RequestIn}
 use Rattle.host_bytes.specs.declared.RequestIn.the-variants.{Is as IsRequest, NoRequest}
 use Rattle.host_bytes.specs.Requests.{requestIn}
-use Rattle.host_bytes.specs.Judges.{judgeLength, judgeBytes}
+use Rattle.host_bytes.specs.Judges.{judgeLength}
 use Rattle.interface_host.specs.Post.{noRequestNumber, beginsNumber, beginsOver, BeginsBytes}
-
--- the numbers are a request, there are as many bytes as a judge has, and they became a fresh judge of it
-pub record BeginsAs (request first second : ℕ) (before after : List ℕ) : Type 0 where
-  pub asked : Request
-  pub is : requestIn request first second ≡ IsRequest asked
-  pub whole : length before ≡ judgeLength
-  pub leaves : after ≡ judgeBytes (freshJudge asked)
+use Rattle.interface_host.specs.Told.{BeginsAs}
 
 -- what was begun, by its number
 module _ (request first second : ℕ) (before after : List ℕ) (r : ℕ) (told : BeginsBytes request first second before after r) where

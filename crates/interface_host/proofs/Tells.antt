@@ -1,14 +1,13 @@
 -- No second outcome meets the promises, and the numbers tell what was built, begun, taken and judged. Assumes nothing.
-use mathlib.Core.Bool.{false, cond}
+use mathlib.Core.Bool.{cond}
 use mathlib.Core.List.{List}
 use mathlib.Core.Logic.{_↔_}
 use mathlib.Core.Option.{Option, none, some}
 use mathlib.Core.Path.{_≡_, refl, sym, ap, subst, _∙_}
-use Prim.Native.Nat.{ℕ, _+_, _-_, _<_}
+use Prim.Native.Nat.{ℕ, _<_}
 use native.Mathlib.Omega.{arith}
 use lib.ListN.{length}
 use lib.Dec.{eqb}
-use borrow.Author.Tests.{ne-eqb}
 use Rattle.verdict.proofs.OneAnswer.{one-answer}
 use Rattle.host_request.specs.declared.Request.{Request}
 use Rattle.host_request.specs.declared.Unbuilt.{Unbuilt}
@@ -16,13 +15,14 @@ use Rattle.host_request.specs.declared.Unbuilt.the-variants.{WrongAmount, Nothi
 use Rattle.host_request.specs.declared.Built.{Built}
 use Rattle.host_request.specs.declared.Built.the-variants.{Is, Refused as NotBuilt}
 use Rattle.host_request.specs.Request.{packetFor}
-use Rattle.host_request.specs.Build.{unbuilt, builtBy, Builds}
+use Rattle.host_request.specs.Build.{unbuilt, builtBy}
 use Rattle.host_request.proofs.Outcome.{unbuilt-leaves}
 use Rattle.host_judge.specs.declared.Judgement.{Judgement}
 use Rattle.host_judge.specs.declared.Judgement.the-variants.{Unanswered, Passed, Refused, WrongReply}
 use Rattle.host_judge.specs.declared.Judge.{Judge}
 use Rattle.host_judge.specs.Reply.{judgementNumber}
 use Rattle.host_judge.specs.Judge.{takenOf}
+use Rattle.host_judge.proofs.Exactly.{judgement-one-number}
 use Rattle.host_bytes.specs.declared.RequestIn.{RequestIn}
 use Rattle.host_bytes.specs.declared.RequestIn.the-variants.{Is as IsRequest, NoRequest}
 use Rattle.host_bytes.specs.declared.HeadIn.{HeadIn}
@@ -30,6 +30,7 @@ use Rattle.host_bytes.specs.declared.HeadIn.the-variants.{Is as IsJudge, NoJudg
 use Rattle.host_bytes.specs.Requests.{requestIn}
 use Rattle.host_bytes.specs.Judges.{headIn, judgeBy, judgeIn}
 use Rattle.interface_host.specs.Post.{unbuiltNumber, builtNumber, builtLength, noRequestNumber, noJudgeNumber, buildsNumber, buildsLength, buildsOver, BuildsBytes, BeginsBytes, takesNumber, TakesBytes, verdictBy, verdictNumber}
+use Rattle.interface_host.specs.Told.{BuildsAs, JudgeHas}
 
 -- one outcome of building
 pub builds-bytes-once : {request first second : ℕ} {bytes before after after′ : List ℕ} {r r′ count count′ : ℕ}
@@ -70,12 +71,6 @@ unbuilt-once why other e = sym (back why) ∙ ap named e ∙ back other
     back WrongAmount = refl
     back NothingLeft = refl
     back NoRoom = refl
-
--- the numbers are a request, and building it answers x
-pub record BuildsAs (request first second : ℕ) (bytes before after : List ℕ) (x : Built) : Type 0 where
-  pub asked : Request
-  pub is : requestIn request first second ≡ IsRequest asked
-  pub builds : Builds asked bytes before after x
 
 -- what was built, by its number
 module _ (request first second : ℕ) (bytes before after : List ℕ) (r count : ℕ)
@@ -158,58 +153,34 @@ verdict-apart Passed e = omega arith
 verdict-apart (Refused code) e = omega arith
 verdict-apart WrongReply e = omega arith
 
--- two verdicts never have one number
-verdict-once : (v u : Judgement) → judgementNumber v ≡ judgementNumber u → v ≡ u
-verdict-once v u e = sym (back v) ∙ ap named e ∙ back u
-  where
-    named : ℕ → Judgement
-    named n = cond (eqb n 0) Unanswered (cond (eqb n 1) Passed (cond (eqb n 2) WrongReply (Refused (n - 256))))
-
-    above : (code k : ℕ) → k < 256 → eqb (256 + code) k ≡ false
-    above code k h = ne-eqb (256 + code) k (λ z. omega arith)
-
-    back : (w : Judgement) → named (judgementNumber w) ≡ w
-    back Unanswered = refl
-    back Passed = refl
-    back WrongReply = refl
-    back (Refused code) =
-        let k : 256 + code - 256 ≡ code = omega arith in
-        rw (above code 0 (omega arith), above code 1 (omega arith), above code 2 (omega arith), k) refl
-
--- the bytes are a judge, of which `verdict` is v
-pub record JudgeHas (verdict : Judge → Judgement) (bs : List ℕ) (v : Judgement) : Type 0 where
-  pub judge : Judge
-  pub there : judgeIn bs ≡ some judge
-  pub has : verdict judge ≡ v
-
 -- a number for that verdict of what the bytes are
-abbrev verdictIn : (Judge → Judgement) → Option Judge → ℕ
-verdictIn verdict none = noJudgeNumber
-verdictIn verdict (some j) = judgementNumber (verdict j)
+abbrev numberBy : (Judge → Judgement) → Option Judge → ℕ
+numberBy verdict none = noJudgeNumber
+numberBy verdict (some j) = judgementNumber (verdict j)
 
-module _ (verdict : Judge → Judgement) (bs : List ℕ) (r : ℕ) (number : r ≡ verdictIn verdict (judgeIn bs)) where
+module _ (verdict : Judge → Judgement) (bs : List ℕ) (r : ℕ) (number : r ≡ numberBy verdict (judgeIn bs)) where
   -- is a verdict's exactly where the bytes are a judge with it
   number-of : (v : Judgement) → (r ≡ judgementNumber v) ↔ JudgeHas verdict bs v
-  number-of v = (λ e. by (judgeIn bs) refl (sym number ∙ e), λ h. number ∙ ap (verdictIn verdict) (h .there) ∙ ap judgementNumber (h .has))
+  number-of v = (λ e. by (judgeIn bs) refl (sym number ∙ e), λ h. number ∙ ap (numberBy verdict) (h .there) ∙ ap judgementNumber (h .has))
     where
-      by : (x : Option Judge) → judgeIn bs ≡ x → verdictIn verdict x ≡ judgementNumber v → JudgeHas verdict bs v
+      by : (x : Option Judge) → judgeIn bs ≡ x → numberBy verdict x ≡ judgementNumber v → JudgeHas verdict bs v
       by none e k = absurd (verdict-apart v (sym k))
-      by (some j) e k = record { judge = j; there = e; has = verdict-once (verdict j) v k }
+      by (some j) e k = record { judge = j; there = e; has = judgement-one-number (verdict j) v k }
 
   -- and 3 exactly where they are none
   number-none : (r ≡ noJudgeNumber) ↔ (judgeIn bs ≡ none)
-  number-none = (λ e. by (judgeIn bs) (sym number ∙ e), λ e. number ∙ ap (verdictIn verdict) e)
+  number-none = (λ e. by (judgeIn bs) (sym number ∙ e), λ e. number ∙ ap (numberBy verdict) e)
     where
-      by : (x : Option Judge) → verdictIn verdict x ≡ noJudgeNumber → x ≡ none
+      by : (x : Option Judge) → numberBy verdict x ≡ noJudgeNumber → x ≡ none
       by none k = refl
       by (some j) k = absurd (verdict-apart (verdict j) k)
 
 -- asking: the verdict of the judge in the bytes
 module _ (bs : List ℕ) where
-  asks : verdictNumber bs ≡ verdictIn (λ j. j .judgement) (judgeIn bs)
+  asks : verdictNumber bs ≡ numberBy (λ j. j .judgement) (judgeIn bs)
   asks = by (headIn bs)
     where
-      by : (x : HeadIn) → verdictBy x ≡ verdictIn (λ j. j .judgement) (judgeBy bs x)
+      by : (x : HeadIn) → verdictBy x ≡ numberBy (λ j. j .judgement) (judgeBy bs x)
       by NoJudge = refl
       by (IsJudge q v) = refl
 
@@ -223,10 +194,10 @@ module _ (bs : List ℕ) where
 
 -- taking: the verdict behind the bytes
 module _ (bytes before after : List ℕ) (r taken from to : ℕ) (told : TakesBytes bytes before after r taken from to) where
-  takes : r ≡ verdictIn (λ j. takenOf j bytes .judge .judgement) (judgeIn before)
+  takes : r ≡ numberBy (λ j. takenOf j bytes .judge .judgement) (judgeIn before)
   takes = told .number ∙ by (headIn before)
     where
-      by : (x : HeadIn) → takesNumber x bytes before ≡ verdictIn (λ j. takenOf j bytes .judge .judgement) (judgeBy before x)
+      by : (x : HeadIn) → takesNumber x bytes before ≡ numberBy (λ j. takenOf j bytes .judge .judgement) (judgeBy before x)
       by NoJudge = refl
       by (IsJudge q v) = refl
 

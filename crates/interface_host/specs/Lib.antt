@@ -1,1 +1,2 @@
 pub mod Post
+pub mod Told

@@ -1,9 +1,9 @@
--- `host_bytes::bare_of` meets its contract. Each arm answers its number; another number is no request without numbers. Assumes nothing.
+-- `host_bytes::requests::bare_of` meets its contract. Each arm answers its number; another number is no request without numbers. Assumes nothing.
 use mathlib.Core.Path.{sym, ap}
 use borrow.Author.Tests.{ne-eqb}
 use Rattle.host_bytes.specs.Requests.{bareIn}
-use Rattle.host_bytes.proofs.bare_of.Statement.{statement}
-use Rattle.host_bytes.proofs.bare_of.Tie as tie
+use Rattle.host_bytes.proofs.requests.bare_of.Statement.{statement}
+use Rattle.host_bytes.proofs.requests.bare_of.Tie as tie
 
 returns : tie.Need-returns
 returns c = sym (ap bareIn (c .match .keys1))

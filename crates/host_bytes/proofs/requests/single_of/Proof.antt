@@ -1,8 +1,8 @@
--- `host_bytes::single_of` meets its contract. The tests are those of the definition, in its order. Assumes nothing.
+-- `host_bytes::requests::single_of` meets its contract. The tests are those of the definition, in its order. Assumes nothing.
 use borrow.Author.Needs.{needs}
 use borrow.Author.Tests.{eq-eqb, ne-eqb, lt-ltb, le-ltb}
-use Rattle.host_bytes.proofs.single_of.Statement.{statement}
-use Rattle.host_bytes.proofs.single_of.Tie as tie
+use Rattle.host_bytes.proofs.requests.single_of.Statement.{statement}
+use Rattle.host_bytes.proofs.requests.single_of.Tie as tie
 
 returns : tie.Need-returns
 returns c = simp (eq-eqb _ _ (c .if1 .taken))

@@ -1,9 +1,9 @@
--- `host_bytes::request_of` meets its contract. The tests are those of the definition, in its order. Assumes nothing.
+-- `host_bytes::requests::request_of` meets its contract. The tests are those of the definition, in its order. Assumes nothing.
 use borrow.Author.Needs.{needs}
 use borrow.Author.Tests.{eq-eqb, ne-eqb}
 use Rattle.host_bytes.specs.Requests.{requestIn}
-use Rattle.host_bytes.proofs.request_of.Statement.{statement}
-use Rattle.host_bytes.proofs.request_of.Tie as tie
+use Rattle.host_bytes.proofs.requests.request_of.Statement.{statement}
+use Rattle.host_bytes.proofs.requests.request_of.Tie as tie
 
 returns : tie.Need-returns
 unfolding requestIn
