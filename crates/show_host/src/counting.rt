@@ -38,8 +38,8 @@ fn count_changes(request: Request, reply: &mut [u8], at: usize) -> Counts {
         return counts;
     }
     let kept = reply[at];
-    for value in 0..=255u8 {
-        reply[at] = value;
+    for value in 0..256usize {
+        reply[at] = (value % 256) as u8;
         let taken = host_judge::take(host_judge::begin(request), reply);
         let judge = taken.judge;
         let judgement = judge.judgement;
@@ -68,23 +68,20 @@ fn count_reply(name: &[u8], kind: &[u8], request: Request, reply: &mut [u8]) {
     }
 }
 
+// Of a reply at the front of a buffer.
+fn count_front(name: &[u8], kind: &[u8], request: Request, buffer: &mut [u8], count: usize) {
+    let end = numbers::lower(count, buffer.len());
+    count_reply(name, kind, request, &mut buffer[..end]);
+}
+
 // What grants the request, and D0h.
 fn count_request(name: &[u8], request: Request, data: &[u8]) {
     let mut reply = [0u8; 1030];
-    let n = numbers::lower(
-        packet_reply::put_data(&mut reply, host_request::number(request), data),
-        1030,
-    );
-    count_reply(name, b" granted", request, &mut reply[..n]);
-    let m = numbers::lower(
-        packet_reply::put_status(
-            &mut reply,
-            host_request::number(request),
-            Verdict::Refused(Reason::Reversed),
-        ),
-        1030,
-    );
-    count_reply(name, b" refused", request, &mut reply[..m]);
+    let code = host_request::number(request);
+    let granted = packet_reply::put_data(&mut reply, code, data);
+    count_front(name, b" granted", request, &mut reply, granted);
+    let refused = packet_reply::put_status(&mut reply, code, Verdict::Refused(Reason::Reversed));
+    count_front(name, b" refused", request, &mut reply, refused);
 }
 
 pub(crate) fn count_first() {
