@@ -1,16 +1,25 @@
 // Requests and their packets, what replies say to them, in cuts and with each byte changed to every value, and plans of writes. Each call has a
 // line: what was given, and what is answered.
+mod counting;
+mod printing;
+
+use counting::count_first;
+use counting::count_second;
 use host_judge::Judge;
-use host_judge::Judgement;
 use host_plan::Following;
 use host_plan::Plan;
 use host_plan::Planned;
-use host_plan::Unplanned;
+use host_plan::Sending;
 use host_request::Built;
 use host_request::Request;
-use host_request::Unbuilt;
-use verdict::Reason;
-use verdict::Verdict;
+use printing::print;
+use printing::print_judgement;
+use printing::print_number;
+use printing::print_request;
+use printing::print_some;
+use printing::print_title;
+use printing::print_unbuilt;
+use printing::print_unplanned;
 
 // The total-erase code.
 const CODE: [u8; 16] = [
@@ -31,106 +40,6 @@ const CODE: [u8; 16] = [
     0xFF,
     0xFF,
 ];
-
-// How many replies say each of the four.
-struct Counts {
-    unanswered: u32,
-    passed: u32,
-    refused: u32,
-    wrong: u32,
-}
-
-fn print(words: &[u8]) {
-    io::write_all(1, words);
-}
-
-fn print_title(words: &[u8]) {
-    print(b"== ");
-    print(words);
-    print(b"\n");
-}
-
-fn print_number(words: &[u8], n: usize) {
-    print(words);
-    io::print_decimal(1, n as u64);
-}
-
-fn print_byte(byte: u8) {
-    let pair = show_common::hex(byte);
-    print(&pair);
-}
-
-// Bytes in hex, with a space between them.
-fn print_bytes(bytes: &[u8]) {
-    for i in 0..bytes.len() {
-        if 0 < i {
-            print(b" ");
-        }
-        print_byte(bytes[i]);
-    }
-}
-
-// All of the bytes, or of many the first eight and the last two.
-fn print_some(bytes: &[u8]) {
-    let n = bytes.len();
-    if n == 0 {
-        print(b"no bytes");
-        return;
-    }
-    if n <= 24 {
-        print_bytes(bytes);
-        return;
-    }
-    let end = n - 2;
-    print_bytes(&bytes[..8]);
-    print(b" .. ");
-    print_bytes(&bytes[end..]);
-    print_number(b" (", n);
-    print(b" bytes)");
-}
-
-fn print_range(words: &[u8], sad: u32, ead: u32) {
-    print(words);
-    print_number(b" ", sad as usize);
-    print_number(b" to ", ead as usize);
-}
-
-fn print_request(request: Request) {
-    match request {
-        Request::Inquiry => print(b"inquiry"),
-        Request::Erase(sad, ead) => print_range(b"erase", sad, ead),
-        Request::Write(sad, ead) => print_range(b"write", sad, ead),
-        Request::Read(sad, ead) => print_range(b"read", sad, ead),
-        Request::Authenticate => print(b"authenticate"),
-        Request::Baud(brt) => print_number(b"baud ", brt as usize),
-        Request::Signature => print(b"signature"),
-        Request::Area(n) => print_number(b"area ", n as usize),
-        Request::WriteData => print(b"write data"),
-        Request::Next(left) => print_number(b"next, left ", left as usize),
-    }
-}
-
-fn print_unbuilt(why: Unbuilt) {
-    match why {
-        Unbuilt::WrongAmount => print(b"wrong amount"),
-        Unbuilt::NothingLeft => print(b"nothing left"),
-        Unbuilt::NoRoom => print(b"no room"),
-    }
-}
-
-fn print_judgement(judgement: Judgement) {
-    match judgement {
-        Judgement::Unanswered => print(b"unanswered"),
-        Judgement::Passed => print(b"passed"),
-        Judgement::WrongReply => print(b"wrong reply"),
-        Judgement::Refused(code) => {
-            print(b"refused ");
-            print_byte(code);
-            print(b"h");
-        }
-    }
-    print_number(b" ", host_judge::judgement_number(judgement) as usize);
-}
 
 // Whether all bytes from a place on are the given one.
 fn is_all(bytes: &[u8], from: usize, value: u8) -> bool {
@@ -342,35 +251,27 @@ fn hear_longest() {
     hear(Request::Next(0xFFFF_FFFF), &reply);
 }
 
-fn print_unplanned(why: Unplanned) {
-    match why {
-        Unplanned::Reversed => print(b"reversed"),
-        Unplanned::NoUnit => print(b"no unit"),
-        Unplanned::LongUnit => print(b"long unit"),
-        Unplanned::StartUnaligned => print(b"start unaligned"),
-        Unplanned::EndUnaligned => print(b"end unaligned"),
-        Unplanned::WrongAmount => print(b"wrong amount"),
-    }
+// A request of a plan, and which of the bytes it sends.
+fn print_sending(sending: Sending) {
+    let request = sending.request;
+    print(b" ");
+    print_request(request);
+    print_number(b" ", sending.from);
+    print_number(b"..", sending.to);
+    print(b",");
 }
 
 // The requests of a plan up to its end, twelve at most.
 fn print_plan(plan: Plan) {
     let mut rest = plan;
-    let mut sent = 0;
-    while sent < 12 {
+    for _ in 0u32..12 {
         let following = host_plan::next_request(rest);
         let Following::Send(sending) = following else {
             print(b" done");
             return;
         };
-        let request = sending.request;
-        print(b" ");
-        print_request(request);
-        print_number(b" ", sending.from);
-        print_number(b"..", sending.to);
-        print(b",");
+        print_sending(sending);
         rest = sending.rest;
-        sent += 1;
     }
     print(b" and so on");
 }
@@ -414,104 +315,6 @@ fn refuse_plans() {
     plan(64, 191, 128, 0);
     plan(0, 127, 128, 127);
     plan(0, 127, 128, 129);
-}
-
-// One reply more.
-fn counted(counts: Counts, judgement: Judgement) -> Counts {
-    let mut c = counts;
-    match judgement {
-        Judgement::Unanswered => c.unanswered = std::num::wrapping_add_u32(c.unanswered, 1),
-        Judgement::Passed => c.passed = std::num::wrapping_add_u32(c.passed, 1),
-        Judgement::Refused(_) => c.refused = std::num::wrapping_add_u32(c.refused, 1),
-        Judgement::WrongReply => c.wrong = std::num::wrapping_add_u32(c.wrong, 1),
-    }
-    c
-}
-
-// The reply with the byte at a place changed to every value.
-fn count_changes(request: Request, reply: &mut [u8], at: usize) -> Counts {
-    let mut counts = Counts {
-        unanswered: 0,
-        passed: 0,
-        refused: 0,
-        wrong: 0,
-    };
-    if reply.len() <= at {
-        return counts;
-    }
-    let kept = reply[at];
-    for value in 0..256 {
-        reply[at] = (value % 256) as u8;
-        let taken = host_judge::take(host_judge::begin(request), reply);
-        let judge = taken.judge;
-        let judgement = judge.judgement;
-        counts = counted(counts, judgement);
-    }
-    reply[at] = kept;
-    counts
-}
-
-// A line for each byte of a reply.
-fn count_reply(name: &[u8], kind: &[u8], request: Request, reply: &mut [u8]) {
-    for at in 0..reply.len() {
-        let counts = count_changes(request, reply, at);
-        print(name);
-        print(kind);
-        print_number(b" ", at);
-        print_number(b" ", counts.unanswered as usize);
-        print_number(b" ", counts.passed as usize);
-        print_number(b" ", counts.refused as usize);
-        print_number(b" ", counts.wrong as usize);
-        print(b"\n");
-    }
-}
-
-// What grants the request, and D0h.
-fn count_request(name: &[u8], request: Request, data: &[u8]) {
-    let mut reply = [0u8; 1030];
-    let n = numbers::lower(
-        packet_reply::put_data(&mut reply, host_request::number(request), data),
-        1030,
-    );
-    count_reply(name, b" granted", request, &mut reply[..n]);
-    let m = numbers::lower(
-        packet_reply::put_status(
-            &mut reply,
-            host_request::number(request),
-            Verdict::Refused(Reason::Reversed),
-        ),
-        1030,
-    );
-    count_reply(name, b" refused", request, &mut reply[..m]);
-}
-
-fn count_first() {
-    count_request(b"inquiry", Request::Inquiry, b"\x00");
-    count_request(b"erase", Request::Erase(0, 0x1FFF), b"\x00");
-    count_request(b"write", Request::Write(0, 0x7F), b"\x00");
-    count_request(b"read1", Request::Read(0, 0), b"\x00");
-    count_request(
-        b"read16",
-        Request::Read(0, 15),
-        b"\x00\x01\x02\x03\x04\x05\x06\x07\x08\x09\x0A\x0B\x0C\x0D\x0E\x0F",
-    );
-    count_request(b"authenticate", Request::Authenticate, b"\x00");
-}
-
-fn count_second() {
-    count_request(b"baud", Request::Baud(9600), b"\x00");
-    count_request(
-        b"signature",
-        Request::Signature,
-        b"\x03\x93\x87\x00\x00\x3D\x09\x00\x02\x01\x01\x00",
-    );
-    count_request(
-        b"area",
-        Request::Area(1),
-        b"\x02\x01\x00\x00\x00\x01\x00\x00\xFF\x00\x00\x00\x00\x00\x00\x00\x10",
-    );
-    count_request(b"write-data", Request::WriteData, b"\x00");
-    count_request(b"next", Request::Next(3), b"\xAA\xBB\xCC");
 }
 
 fn main() {
