@@ -98,7 +98,7 @@ unfolding feedOf stepOf stepIn heard answerCommand decided commandChecks knownCh
 meetings-hold image = refl
 
 -- the bench profile is accepted
-bench-accepted : Accepted bench
+pub bench-accepted : Accepted bench
 unfolding Accepted firstFault profileChecks headChecks areaChecks tableChecks tailChecks unitFits config smallConfig entries tally
 bench-accepted = refl
 

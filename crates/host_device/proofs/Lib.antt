@@ -1,5 +1,6 @@
 pub mod Agreement
 pub mod Carried
+pub mod Erased
 pub mod Examples
 pub mod Grants
 pub mod Known

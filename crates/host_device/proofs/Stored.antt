@@ -137,7 +137,7 @@ module _ (areas : List Area) (spot : Spot) (same : (x : ℕ) → spot .area .sad
     start-place = same s low (omega arith)
 
     -- the image has the byte of each address of the range
-    in-image : (x : ℕ) → s ≤ x → x ≤ e → offsetIn spot x < length image
+    pub in-image : (x : ℕ) → s ≤ x → x ≤ e → offsetIn spot x < length image
     in-image x from to = omega (arith, area-below-total areas s spot start-place)
 
     end-in-image : offsetIn spot e < length image
