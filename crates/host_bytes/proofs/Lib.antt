@@ -1,3 +1,4 @@
 pub mod Put
 pub mod Widths
 pub mod RoundTrip
+pub mod Lasting

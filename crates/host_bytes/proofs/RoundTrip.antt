@@ -26,14 +26,13 @@ use Rattle.host_bytes.specs.declared.RequestIn.{RequestIn}
 use Rattle.host_bytes.specs.declared.RequestIn.the-variants.{Is, NoRequest}
 use Rattle.host_bytes.specs.declared.JudgementIn.{JudgementIn}
 use Rattle.host_bytes.specs.declared.JudgementIn.the-variants.{Is as Says, NoJudgement}
-use Rattle.host_bytes.specs.declared.HeadIn.{HeadIn}
 use Rattle.host_bytes.specs.declared.HeadIn.the-variants.{Is as Heads, NoJudge}
 use Rattle.host_bytes.specs.Requests.{requestNumber, firstNumber, secondNumber, bareIn, singleIn, requestIn}
-use Rattle.host_bytes.specs.Judges.{judgementIn, headBy, headIn, replyIn, judgeWith, judgeBy, judgeIn, judgeBytes}
+use Rattle.host_bytes.specs.Judges.{judgeLength, judgementIn, headBy, headIn, replyIn, judgeWith, judgeBy, judgeIn, judgeBytes}
 use Rattle.host_bytes.proofs.Widths.{Coded, FormedJudge, first-width, second-width, said-width}
 
 -- what a test that led to an answer says
-chosen : {A : Type 0} (t : Bool) {a b v : A} {P : Type 0} → cond t a b ≡ v → (t ≡ true → a ≡ v → P) → (t ≡ false → b ≡ v → P) → P
+pub chosen : {A : Type 0} (t : Bool) {a b v : A} {P : Type 0} → cond t a b ≡ v → (t ≡ true → a ≡ v → P) → (t ≡ false → b ≡ v → P) → P
 chosen true h taken left = taken refl h
 chosen false h taken left = left refl h
 
@@ -157,7 +156,32 @@ judge-back j f =
     let e : bytesFrom 17 0 (j .reply .first) ≡ j .reply .first = spelled 17 (j .reply .first) (f .seventeen) in
     rw e at (judge-spelt (j .request) (j .judgement) (j .reply) (f .asked) (f .said) (f .count))
 
--- bytes that are a judge
+-- bytes that are a judge: as many as one has, its request and its verdict by their numbers, and its reply
+pub record ReadAs (bs : List ℕ) (j : Judge) : Type 0 where
+  pub whole : length bs ≡ judgeLength
+  pub asked : requestIn (getD bs 2 0) (fourAt bs 3) (fourAt bs 7) ≡ Is (j .request)
+  pub said : judgementIn (twoAt bs 0) ≡ Says (j .judgement)
+  pub reply : replyIn bs ≡ j .reply
+
+pub judge-read : (bs : List ℕ) (j : Judge) → judgeIn bs ≡ some j → ReadAs bs j
+unfolding headIn
+judge-read bs j h = by (eqb (length bs) judgeLength) refl (requestIn (getD bs 2 0) (fourAt bs 3) (fourAt bs 7)) refl (judgementIn (twoAt bs 0)) refl h
+  where
+    by : (t : Bool) → eqb (length bs) judgeLength ≡ t
+        → (x : RequestIn) → requestIn (getD bs 2 0) (fourAt bs 3) (fourAt bs 7) ≡ x → (u : JudgementIn) → judgementIn (twoAt bs 0) ≡ u
+        → judgeBy bs (cond t (headBy x u) NoJudge) ≡ some j → ReadAs bs j
+    by false l x p u q e = impossible (cc)
+    by true l NoRequest p u q e = impossible (cc)
+    by true l (Is r) p NoJudgement q e = impossible (cc)
+    by true l (Is r) p (Says v) q e =
+        let k : judgeWith bs r v ≡ j = cc in
+        record {
+          whole = eqb-true (length bs) judgeLength l;
+          asked = p ∙ ap (λ (i : Judge). Is (i .request)) k;
+          said = q ∙ ap (λ (i : Judge). Says (i .judgement)) k;
+          reply = ap (λ (i : Judge). i .reply) k;
+        }
+
 module _ (bs : List ℕ) (t : AllBytes bs) where
   -- 36 bytes, field by field
   in-fields : length bs ≡ 36
@@ -186,31 +210,14 @@ module _ (bs : List ℕ) (t : AllBytes bs) where
         back-four 11 bs t (omega arith),
       ) (in-fields h))
 
-  -- bytes that begin as a judge's do are that judge's
-  head-only : (r : Request) (v : Judgement) → headIn bs ≡ Heads r v → bs ≡ judgeBytes (judgeWith bs r v)
-  unfolding headIn
-  head-only r v h =
-      chosen (eqb (length bs) 36) h
-      (λ l e. by (eqb-true (length bs) 36 l) (requestIn (getD bs 2 0) (fourAt bs 3) (fourAt bs 7)) refl (judgementIn (twoAt bs 0)) refl e)
-      (λ _ e. impossible (cc))
-    where
-      by : length bs ≡ 36
-          → (x : RequestIn) → requestIn (getD bs 2 0) (fourAt bs 3) (fourAt bs 7) ≡ x → (u : JudgementIn) → judgementIn (twoAt bs 0) ≡ u
-          → headBy x u ≡ Heads r v → bs ≡ judgeBytes (judgeWith bs r v)
-      by l NoRequest p u q e = impossible (cc)
-      by l (Is s) p NoJudgement q e = impossible (cc)
-      by l (Is s) p (Says w) q e =
-          let c : s ≡ r = cc in
-          let d : w ≡ v = cc in
-          head-told r v l (request-only (getD bs 2 0) (fourAt bs 3) (fourAt bs 7) r (p ∙ ap Is c)) (judgement-only (twoAt bs 0) v (q ∙ ap Says d))
-
   -- a judge has one form as bytes
   pub judge-only : (j : Judge) → judgeIn bs ≡ some j → bs ≡ judgeBytes j
-  judge-only j h = by (headIn bs) refl h
-    where
-      by : (x : HeadIn) → headIn bs ≡ x → judgeBy bs x ≡ some j → bs ≡ judgeBytes j
-      by NoJudge p e = impossible (cc)
-      by (Heads r v) p e = let k : judgeWith bs r v ≡ j = cc in head-only r v p ∙ ap judgeBytes k
+  judge-only j h =
+      let o = judge-read bs j h in
+      head-told (j .request) (j .judgement) (o .whole)
+      (request-only (getD bs 2 0) (fourAt bs 3) (fourAt bs 7) (j .request) (o .asked))
+      (judgement-only (twoAt bs 0) (j .judgement) (o .said))
+      ∙ ap (λ (y : Reply). judgeBytes (record { request = j .request; judgement = j .judgement; reply = y })) (o .reply)
 
 -- bytes that were only cleared are no judge
 pub cleared-is-none : judgeIn (replicate 36 0) ≡ none

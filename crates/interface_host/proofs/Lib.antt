@@ -1,3 +1,4 @@
 pub mod Outcome
 pub mod Tells
 pub mod Begun
+pub mod Lasting

@@ -1,5 +1,6 @@
--- What the numbers of the host's end tell a caller: the laws in proofs/Tells and proofs/Begun are said in these words.
-use mathlib.Core.List.{List}
+-- What the numbers of the host's end tell a caller: the laws in proofs/Tells, proofs/Begun and proofs/Lasting are said
+-- in these words.
+use mathlib.Core.List.{List, [], _∷_}
 use mathlib.Core.Option.{some}
 use mathlib.Core.Path.{_≡_}
 use Prim.Native.Nat.{ℕ}
@@ -13,6 +14,7 @@ use Rattle.host_judge.specs.Judge.{freshJudge}
 use Rattle.host_bytes.specs.declared.RequestIn.the-variants.{Is as IsRequest}
 use Rattle.host_bytes.specs.Requests.{requestIn}
 use Rattle.host_bytes.specs.Judges.{judgeLength, judgeBytes, judgeIn}
+use Rattle.interface_host.specs.Post.{TakesBytes}
 
 -- the numbers are a request, and building it answers x
 pub record BuildsAs (request first second : ℕ) (bytes before after : List ℕ) (x : Built) : Type 0 where
@@ -32,3 +34,9 @@ pub record JudgeHas (verdict : Judge → Judgement) (bs : List ℕ) (v : Judgeme
   pub judge : Judge
   pub there : judgeIn bs ≡ some judge
   pub has : verdict judge ≡ v
+
+-- calls of taking, one behind the other on the bytes of one judge: what each was given, the judge's bytes before the first and behind the last
+pub data TakenAll : List (List ℕ) → List ℕ → List ℕ → Type 0 where
+  none-taken : {judge : List ℕ} → TakenAll [] judge judge
+  next-taken : {cut : List ℕ} {cuts : List (List ℕ)} {before between after : List ℕ} {r taken from to : ℕ}
+      → TakesBytes cut before between r taken from to → TakenAll cuts between after → TakenAll (cut ∷ cuts) before after
