@@ -11,3 +11,4 @@ pub mod Recordings
 pub mod Disk
 pub mod Outside
 pub mod Host
+pub mod HostOutside

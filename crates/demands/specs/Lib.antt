@@ -7,3 +7,4 @@ pub mod Recordings
 pub mod Disk
 pub mod Host
 pub mod Outside
+pub mod HostOutside
