@@ -54,6 +54,8 @@ test-c: library
 	./setup
 	$(CC_X86) $(C_FLAGS) -Iinclude tests/c/calls.c $(LIBRARY) -o target/calls
 	$(RUN_X86) target/calls
+	$(CC_X86) $(C_FLAGS) -Iinclude tests/c/host.c $(LIBRARY) -o target/host
+	$(RUN_X86) target/host
 	CC="$(CC_X86) $(C_FLAGS)" RUN="$(RUN_X86)" tests/c/installed
 
 VERSION := $(shell sed -n 's/.*define INDRAVECK_VERSION "\(.*\)"/\1/p' include/indraveck.h)

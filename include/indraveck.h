@@ -1,8 +1,9 @@
-/* The proved stand-in for a microcontroller in serial boot mode, for C99 and C++. Link libindraveck.a.
+/* The proved stand-in for a microcontroller in serial boot mode, and the host's end of its line, for C99 and C++. Link libindraveck.a.
  *
- * Bytes that a host sends go in, reply bytes come out, and the flash is an array of yours. Seven functions: start, feed and reset are the
- * device, payload looks into a packet, read_record and write_record are a recorded line record by record, replay does one over
- * again. A device that answers what it received:
+ * Bytes that a host sends go in, reply bytes come out, and the flash is an array of yours. Eleven functions: start, feed and reset are
+ * the device, payload looks into a packet; build and judge_begin, judge_take and judge_verdict are the host's end, which sends requests
+ * to a device and judges its replies; read_record and write_record are a recorded line record by record, replay does one over again. A
+ * device that answers what it received:
  *
  *     struct device {
  *         uint8_t profile[INDRAVECK_PROFILE_BYTES];
@@ -39,15 +40,42 @@
  * many as the state's held count says. They may be moved or stored and brought back in other buffers. The reply buffer is free as
  * soon as the reply was sent, and so are the receive bytes behind those held.
  *
+ * A host that sends a request and judges what comes back:
+ *
+ *     // INDRAVECK_HOST_DONE if the request was sent; *verdict is what came of it, and stays unanswered if nothing did
+ *     uint32_t ask(uint32_t request, uint32_t first, uint32_t second, const uint8_t *bytes, size_t bytes_len, uint32_t *verdict)
+ *     {
+ *         uint8_t packet[INDRAVECK_BUFFER_BYTES], judge[INDRAVECK_JUDGE_BYTES], back[64];
+ *         uint64_t length, taken, from, to;
+ *         size_t count;
+ *         uint32_t answer = indraveck_build(packet, sizeof packet, request, first, second, bytes, bytes_len, &length);
+ *
+ *         *verdict = INDRAVECK_VERDICT_UNANSWERED;
+ *         if (answer != INDRAVECK_HOST_DONE)
+ *             return answer; // nothing was sent
+ *         indraveck_judge_begin(judge, sizeof judge, request, first, second); // done, as for the packet
+ *         send_to_device(packet, (size_t)length);
+ *         while (*verdict == INDRAVECK_VERDICT_UNANSWERED && (count = receive(back, sizeof back)) > 0) {
+ *             *verdict = indraveck_judge_take(judge, sizeof judge, back, count, &taken, &from, &to);
+ *             if (from < to)
+ *                 on_data(back + from, (size_t)(to - from)); // worth something only if the verdict becomes passed
+ *         }
+ *         return INDRAVECK_HOST_DONE;
+ *     }
+ *
+ * Beware of 0: it is this protocol's status code for OK, and for that very reason it is no verdict that says so. A verdict of yours that
+ * starts at 0 says "unanswered". INDRAVECK_VERDICT_PASSED, which is 1, says "passed", and no other number does: compare with it, since
+ * `if (verdict)` and `if (!verdict)` both ask something else.
+ *
  * Pointers: a slice passes as a pointer and a length. The pointer of a slice with a length is not null and lends that many bytes; a
- * slice of length 0 may have any pointer, null too. consumed, reply_len, start, length, from, to, read and ended are never null.
+ * slice of length 0 may have any pointer, null too. consumed, reply_len, start, length, taken, from, to, read and ended are never null.
  * Nothing that is passed to one call overlaps. Within that every call is legal: wrong lengths and contents are refused with their
  * number, and nothing outside the lent slices is touched.
  *
  * Threads: the library keeps nothing from one call to the next, and calls nothing but memcpy and memset. Calls may run at once if what
  * one of them writes is used by no other; a profile, which is only read, may be shared.
  *
- * All numbers in profile, state and recording go high byte first.
+ * All numbers in profile, state, judge and recording go high byte first.
  */
 #ifndef INDRAVECK_H
 #define INDRAVECK_H
@@ -60,9 +88,9 @@ extern "C" {
 #endif
 
 #define INDRAVECK_VERSION_MAJOR 0
-#define INDRAVECK_VERSION_MINOR 3
+#define INDRAVECK_VERSION_MINOR 4
 #define INDRAVECK_VERSION_PATCH 0
-#define INDRAVECK_VERSION "0.3.0"
+#define INDRAVECK_VERSION "0.4.0"
 
 /* What start, reset, feed and replay answer: 0, or the number of the first refusal that applies, looked for in this order. */
 #define INDRAVECK_ACCEPTED 0
@@ -121,6 +149,56 @@ extern "C" {
 #define INDRAVECK_LOW_PULSES_ONE 1
 #define INDRAVECK_LOW_PULSES_ACKNOWLEDGED 2
 
+/* What a host may ask of a device. Beside its number a request has up to two numbers of its own, `first` and `second`; one that it does
+ * not have is 0. None has the number 0. */
+#define INDRAVECK_REQUEST_INQUIRY 1
+#define INDRAVECK_REQUEST_ERASE 2        /* first SAD, second EAD */
+#define INDRAVECK_REQUEST_WRITE 3        /* first SAD, second EAD */
+#define INDRAVECK_REQUEST_READ 4         /* first SAD, second EAD: the read's first packet */
+#define INDRAVECK_REQUEST_AUTHENTICATE 5 /* with the code's 16 bytes beside it */
+#define INDRAVECK_REQUEST_BAUD 6         /* first BRT */
+#define INDRAVECK_REQUEST_SIGNATURE 7
+#define INDRAVECK_REQUEST_AREA 8         /* first the area's number, 0 to 255 */
+#define INDRAVECK_REQUEST_WRITE_DATA 9   /* in a write: with the data beside it, 1 to 1,024 bytes */
+#define INDRAVECK_REQUEST_NEXT 10        /* in a read: its next packet; first says how many bytes are still unread */
+
+/* What build and judge_begin answer: that it is done, or the number of the first refusal that applies, looked for in the order that
+ * stands at each function. Neither ever answers 0, so that a number which nobody wrote is not taken for an answer. */
+#define INDRAVECK_HOST_DONE 1
+#define INDRAVECK_HOST_WRONG_AMOUNT 2 /* the bytes lent beside the request are not as many as it has; only from build */
+#define INDRAVECK_HOST_NOTHING_LEFT 3 /* a read's next packet, and nothing is unread; only from build */
+#define INDRAVECK_HOST_NO_ROOM 4      /* the buffer is shorter than the packet; only from build */
+#define INDRAVECK_HOST_NO_REQUEST 5   /* no request has these three numbers */
+#define INDRAVECK_HOST_WRONG_LENGTH 6 /* the judge's bytes are not 36; only from judge_begin */
+
+/* The verdicts. A refusal is INDRAVECK_VERDICT_REFUSED + its status code, which is 1 to 255: so 257 to 511. */
+#define INDRAVECK_VERDICT_UNANSWERED 0  /* nothing came back that decides */
+#define INDRAVECK_VERDICT_PASSED 1      /* the OK or the data that belongs to the request came back */
+#define INDRAVECK_VERDICT_WRONG_REPLY 2 /* what came back is no reply to the request */
+#define INDRAVECK_VERDICT_NO_JUDGE 3    /* these bytes are no judge, or not 36; a judge never says so */
+#define INDRAVECK_VERDICT_REFUSED 256   /* with the status code added: an error reply to the request came back */
+
+/* A judge's bytes, and where in them each number starts. It is all that a judge is: it may be moved, stored and copied, and a copy goes
+ * on by itself. Bytes that were only cleared are no judge. */
+#define INDRAVECK_JUDGE_BYTES 36
+#define INDRAVECK_JUDGE_AT_VERDICT 0 /* 2 bytes */
+#define INDRAVECK_JUDGE_AT_REQUEST 2 /* 1 byte: the request's number .. */
+#define INDRAVECK_JUDGE_AT_FIRST 3   /* 4 bytes: .. and its own numbers */
+#define INDRAVECK_JUDGE_AT_SECOND 7  /* 4 bytes */
+#define INDRAVECK_JUDGE_AT_COUNT 11  /* 4 bytes: how many bytes of the reply came, from 81h on */
+#define INDRAVECK_JUDGE_AT_LENGTH 15 /* 2 bytes: the reply's length bytes; each is 0 until it comes, as what follows here is */
+#define INDRAVECK_JUDGE_AT_RES 17    /* 1 byte: RES */
+#define INDRAVECK_JUDGE_AT_SUM 18    /* 1 byte: the sum, modulo 256, of the bytes that came behind 81h, SUM among them and ETX not */
+#define INDRAVECK_JUDGE_AT_DATA 19   /* 17 bytes: the first of the reply's data, which are all of a status, a signature and an area */
+
+/* Where each number starts in the data of a signature that passed. The data of an area that passed has the places of a profile's areas,
+ * INDRAVECK_AREA_AT_KOA to INDRAVECK_AREA_AT_WAU. A judge judges none of these numbers: KOA may be any. */
+#define INDRAVECK_SIGNATURE_AT_SCI 0  /* 4 bytes */
+#define INDRAVECK_SIGNATURE_AT_RMB 4  /* 4 bytes */
+#define INDRAVECK_SIGNATURE_AT_NOA 8  /* 1 byte */
+#define INDRAVECK_SIGNATURE_AT_TYP 9  /* 1 byte */
+#define INDRAVECK_SIGNATURE_AT_BFV 10 /* 2 bytes */
+
 /* A recording is records one behind the other, with nothing before, between or behind them; no byte at all is one without records. A
  * record is a head of five bytes (the mark 52h 4Ch, a direction, a length in two bytes) and as many bytes as the length says: 1 to 1,030,
  * the length of the longest packet, and none for a reset. */
@@ -169,6 +247,50 @@ uint32_t indraveck_feed(const uint8_t *profile, size_t profile_len,
  * count may be asked for. A packet that was just answered still stands there, but a feed promises only the held bytes. */
 uint32_t indraveck_payload(const uint8_t *receive, size_t receive_len, size_t count,
                            uint64_t *start, uint64_t *length);
+
+/* Builds the packet of a request at the front of the buffer. Answers INDRAVECK_HOST_DONE; or why there is none, the first of these that
+ * applies:
+ *  - INDRAVECK_HOST_NO_REQUEST: `request`, `first` and `second`, which may be any numbers, are no request;
+ *  - INDRAVECK_HOST_WRONG_AMOUNT: `bytes_len` is not what the request has: 16 for authenticate, 1 to 1,024 for write data, 0 otherwise;
+ *  - INDRAVECK_HOST_NOTHING_LEFT: a read's next packet is asked for, and `first` says that 0 bytes are unread;
+ *  - INDRAVECK_HOST_NO_ROOM: the packet does not fit whole. INDRAVECK_BUFFER_BYTES are enough for every packet.
+ * Addresses, codes, rates and area numbers are not judged: that is the device's to do.
+ *
+ * `length` is always written: how many bytes the packet has, or 0 if there is none. Then nothing is written into the buffer either;
+ * otherwise every byte behind the packet is as it was. */
+uint32_t indraveck_build(uint8_t *buffer, size_t buffer_len,
+                         uint32_t request, uint32_t first, uint32_t second,
+                         const uint8_t *bytes, size_t bytes_len, uint64_t *length);
+
+/* Writes a judge of the reply to a request, which is unanswered, whatever the bytes held. Answers INDRAVECK_HOST_DONE; or why there is
+ * none, INDRAVECK_HOST_NO_REQUEST as for build before INDRAVECK_HOST_WRONG_LENGTH, and then the bytes are left. Begin one for each request
+ * that is sent, with the same numbers; the bytes lent beside the request are not needed. A read's next packet with 0 bytes unread may
+ * have a judge too, and nothing passes there. */
+uint32_t indraveck_judge_begin(uint8_t *judge, size_t judge_len,
+                               uint32_t request, uint32_t first, uint32_t second);
+
+/* Gives a judge the bytes that came back, in any pieces, up to the one that decides. Answers the verdict behind them. Bytes that are no
+ * judge are refused with INDRAVECK_VERDICT_NO_JUDGE and left.
+ *
+ * The first packet decides, and a verdict is final. Bytes before 81h are skipped. A length that is not 1 to 1,025 is a wrong reply at its
+ * second byte; otherwise the packet decides with its last byte, and until then the request is unanswered:
+ *  - passed: ETX and SUM are right, RES is that of the request, and it is a status 00h or, of a signature, an area or a read, as much
+ *    data as there has to be: 12, 17, or 1,024 and at a read's end all that is left. Nothing passes a read with SAD above EAD;
+ *  - refused: ETX and SUM are right, RES is that of the request with bit 7 set, and a status that is not 00h is all that follows;
+ *  - a wrong reply in every other case.
+ *
+ * `taken`, `from` and `to` are always written. `taken` is how many of the bytes were taken: all while the request is unanswered, those up
+ * to the deciding one when it decides, and none behind a verdict; what was not taken is the caller's. The bytes from bytes[from] up to
+ * before bytes[to] are those among the taken that are the reply's data, which stands behind RES and before SUM; of a status it is the
+ * status code. It is data of a reply that may still turn out wrong. Where there is none the two are equal: `taken` while it is still to
+ * come, 0 if all of it came before, and the place behind RES if the reply has none. With no judge all three are 0. */
+uint32_t indraveck_judge_take(uint8_t *judge, size_t judge_len,
+                              const uint8_t *bytes, size_t bytes_len,
+                              uint64_t *taken, uint64_t *from, uint64_t *to);
+
+/* A judge's verdict: the one that judge_take answered last, or INDRAVECK_VERDICT_UNANSWERED before that; of bytes that are no judge
+ * INDRAVECK_VERDICT_NO_JUDGE. Nothing changes. */
+uint32_t indraveck_judge_verdict(const uint8_t *judge, size_t judge_len);
 
 /* Reads the one record that begins at the place `at`. Answers its direction; or INDRAVECK_RECORD_END if `at` is the recording's length,
  * so that nothing is left; or why there is no record to be read, 1 to 4.

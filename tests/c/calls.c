@@ -1,23 +1,14 @@
 /* The header and the library from C: its names, its examples, a session on a small profile, recordings, and calls that are refused. */
 #include "indraveck.h"
 
-#include <stdio.h>
+#include "check.h"
+
 #include <string.h>
 
 /* 2,048 of user area and 16 of config */
 #define FLASH_BYTES 2064
 #define RECORDING_BYTES 100
 #define GUARD 16
-
-static int failures;
-
-static void check(int holds, const char *what)
-{
-    if (!holds) {
-        printf("FAILED: %s\n", what);
-        failures++;
-    }
-}
 
 static uint8_t sent[4 * INDRAVECK_BUFFER_BYTES];
 static size_t sent_len;
@@ -43,19 +34,6 @@ static void on_record(uint32_t direction, const uint8_t *bytes, size_t length)
 }
 
 #include "recording.c"
-
-static void put_four(uint8_t *at, uint32_t n)
-{
-    at[0] = (uint8_t)(n >> 24);
-    at[1] = (uint8_t)(n >> 16);
-    at[2] = (uint8_t)(n >> 8);
-    at[3] = (uint8_t)n;
-}
-
-static uint32_t four(const uint8_t *at)
-{
-    return (uint32_t)at[0] << 24 | (uint32_t)at[1] << 16 | (uint32_t)at[2] << 8 | at[3];
-}
 
 /* A user area that is larger than one packet, all but its first 16 bytes in the window, and the least config area. */
 static void small_profile(uint8_t *profile)
@@ -110,7 +88,7 @@ static void names(void)
     uint32_t refusal;
     int known = 0;
 
-#if INDRAVECK_ACCEPTED != 0 || INDRAVECK_UNFIT_STATE != 5 || 100 * INDRAVECK_VERSION_MAJOR + INDRAVECK_VERSION_MINOR < 3 \
+#if INDRAVECK_ACCEPTED != 0 || INDRAVECK_UNFIT_STATE != 5 || 100 * INDRAVECK_VERSION_MAJOR + INDRAVECK_VERSION_MINOR < 4 \
     || INDRAVECK_RECORD_HOST != 0x48 || INDRAVECK_RECORD_END != 6
 #error "the preprocessor does not see the header's numbers"
 #endif

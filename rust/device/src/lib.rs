@@ -1,4 +1,4 @@
-//! A proved stand-in for a microcontroller in serial boot mode.
+//! A proved stand-in for a microcontroller in serial boot mode, and the host's end of its line.
 //!
 //! A [`Device`] owns its profile, its flash image, its state and its buffers. Received bytes go in, replies come out, and the image
 //! can be looked at between any two bytes:
@@ -18,6 +18,7 @@
 //! | have the replies back | [`Device::feed_all`], [`Device::feed_each`] |
 //! | write to it and read from it, as from a serial port | [`Port`] |
 //! | take a snapshot | [`Device`]'s `clone`; [`Device::save`] and [`Device::resume`] over an end of the program |
+//! | be the host: send requests to a device and judge its replies | [`host`] |
 //! | damage the flash | [`Device::image_mut`] |
 //! | ask whether it would understand a host's rate | [`Device::matches_rate`] |
 //! | read a profile file | [`profile_file`] |
@@ -25,12 +26,13 @@
 //! | write a line down, or read what was written down | [`recording`] |
 //! | do a recorded line over again | [`replay()`] |
 //!
-//! What the device answers and stores is proved in Rattle; [`raw`] has the same functions on plain slices. The library keeps nothing, so
-//! devices are independent of each other, on any threads.
+//! What the device answers and stores, and what the host's end sends and judges, is proved in Rattle; [`raw`] has the same functions on
+//! plain slices. The library keeps nothing, so devices are independent of each other, on any threads.
 
 #![deny(missing_docs)]
 
 mod device;
+pub mod host;
 mod port;
 mod profile;
 pub mod profile_file;

@@ -20,6 +20,16 @@ impl Kind {
             Kind::Config => 2,
         }
     }
+
+    /// The kind that has this number; `None` if there is none.
+    pub fn of_number(number: u8) -> Option<Kind> {
+        match number {
+            0 => Some(Kind::User),
+            1 => Some(Kind::Data),
+            2 => Some(Kind::Config),
+            _ => None,
+        }
+    }
 }
 
 /// An area of the flash: addresses `sad` to `ead`, both inclusive; units in bytes, 0 for none.

@@ -1,7 +1,7 @@
-//! The seven functions of `include/indraveck.h` on slices. Each takes any slices: what is wrong is refused with its number, and
+//! The eleven functions of `include/indraveck.h` on slices. Each takes any slices: what is wrong is refused with its number, and
 //! nothing but the slices is read or written. That is proved of the library, so the calls are safe.
 //!
-//! The header says what stands where in the bytes of a profile and of a state, and what has to be kept between two feeds.
+//! The header says what stands where in the bytes of a profile, of a state and of a judge, and what has to be kept between two feeds.
 //!
 //! ```
 //! use indraveck::{raw, Profile, BUFFER_BYTES, STATE_BYTES};
@@ -57,6 +57,33 @@ extern "C" {
         start: *mut u64,
         length: *mut u64,
     ) -> u32;
+    fn indraveck_build(
+        buffer: *mut u8,
+        buffer_len: usize,
+        request: u32,
+        first: u32,
+        second: u32,
+        bytes: *const u8,
+        bytes_len: usize,
+        length: *mut u64,
+    ) -> u32;
+    fn indraveck_judge_begin(
+        judge: *mut u8,
+        judge_len: usize,
+        request: u32,
+        first: u32,
+        second: u32,
+    ) -> u32;
+    fn indraveck_judge_take(
+        judge: *mut u8,
+        judge_len: usize,
+        bytes: *const u8,
+        bytes_len: usize,
+        taken: *mut u64,
+        from: *mut u64,
+        to: *mut u64,
+    ) -> u32;
+    fn indraveck_judge_verdict(judge: *const u8, judge_len: usize) -> u32;
     fn indraveck_read_record(
         recording: *const u8,
         recording_len: usize,
@@ -184,6 +211,87 @@ pub fn payload(receive: &[u8], count: usize) -> Option<std::ops::Range<usize>> {
     }
     let start = start as usize;
     Some(start..start + length as usize)
+}
+
+/// Builds the packet of a request at the front of a buffer: 1 if it was built, or 2 to 5, never 0; and its length, 0 if it was not built.
+/// [`Request::packet_into`](crate::host::Request::packet_into) has it in words.
+#[inline]
+pub fn build(
+    buffer: &mut [u8],
+    request: u32,
+    first: u32,
+    second: u32,
+    bytes: &[u8],
+) -> (u32, usize) {
+    // no length, so that one which was not written is not taken for one
+    let mut length = u64::MAX;
+    let answer = unsafe {
+        indraveck_build(
+            buffer.as_mut_ptr(),
+            buffer.len(),
+            request,
+            first,
+            second,
+            bytes.as_ptr(),
+            bytes.len(),
+            &mut length,
+        )
+    };
+    // at most the buffer's
+    (answer, length as usize)
+}
+
+/// Writes a judge of the reply to a request: 1 if it was written, or 5 or 6, never 0; then the bytes are left.
+/// [`Judge::new`](crate::host::Judge::new) has it in words.
+#[inline]
+pub fn judge_begin(judge: &mut [u8], request: u32, first: u32, second: u32) -> u32 {
+    unsafe { indraveck_judge_begin(judge.as_mut_ptr(), judge.len(), request, first, second) }
+}
+
+/// The verdict behind some bytes, how many of them a judge took, and which of those are the reply's data.
+#[must_use = "bytes that were not taken are still the caller's"]
+#[derive(Clone, Copy, Debug, PartialEq, Eq)]
+pub struct Taken {
+    /// The verdict: 0 unanswered, 1 passed, 2 wrong reply, 256 and the status code refused; 3 of bytes that are no judge.
+    pub verdict: u32,
+    /// How many bytes were taken.
+    pub count: usize,
+    /// Where the reply's data begins among them.
+    pub from: usize,
+    /// Where it ends; where it begins if there is none.
+    pub to: usize,
+}
+
+/// Gives a judge bytes that came back; [`Judge::take`](crate::host::Judge::take) has it in words.
+#[inline]
+pub fn judge_take(judge: &mut [u8], bytes: &[u8]) -> Taken {
+    let mut taken = u64::MAX;
+    let mut from = u64::MAX;
+    let mut to = u64::MAX;
+    let verdict = unsafe {
+        indraveck_judge_take(
+            judge.as_mut_ptr(),
+            judge.len(),
+            bytes.as_ptr(),
+            bytes.len(),
+            &mut taken,
+            &mut from,
+            &mut to,
+        )
+    };
+    // all are at most how many bytes there are
+    Taken {
+        verdict,
+        count: taken as usize,
+        from: from as usize,
+        to: to as usize,
+    }
+}
+
+/// A judge's verdict, or 3 of bytes that are no judge; [`Judge::verdict`](crate::host::Judge::verdict) has it in words.
+#[inline]
+pub fn judge_verdict(judge: &[u8]) -> u32 {
+    unsafe { indraveck_judge_verdict(judge.as_ptr(), judge.len()) }
 }
 
 /// What reading one record answered, and where the record's bytes stand.

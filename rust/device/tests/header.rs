@@ -3,12 +3,14 @@
 mod common;
 
 use common::{awake, range, write_data};
+use indraveck::host::{Judge, Request, Unbuilt, Verdict, JUDGE_BYTES};
 use indraveck::recording::{Direction, Unreadable, Unwritable, HEAD_BYTES, MOST_BYTES};
 use indraveck::{raw, Kind, Profile, Refusal, Stage};
 use indraveck::{AREAS, BUFFER_BYTES, PROFILE_BYTES, STATE_BYTES};
 
 const HEADER: &str = include_str!("../../../include/indraveck.h");
 const EXAMPLE: &str = include_str!("../../../tests/c/example.c");
+const ASK: &str = include_str!("../../../tests/c/ask.c");
 const RECORDING: &str = include_str!("../../../tests/c/recording.c");
 
 /// What the header defines a name as, without the comment.
@@ -69,6 +71,120 @@ fn the_headers_numbers_are_the_crates() {
     ] {
         assert_eq!(number(name), usize::from(kind.number()));
     }
+}
+
+#[test]
+fn the_headers_numbers_of_the_host_are_the_crates() {
+    assert_eq!(number("JUDGE_BYTES"), JUDGE_BYTES);
+    let (sad, ead) = (0, 1);
+    let requests = [
+        ("INQUIRY", Request::Inquiry),
+        ("ERASE", Request::Erase { sad, ead }),
+        ("WRITE", Request::Write { sad, ead }),
+        ("READ", Request::Read { sad, ead }),
+        ("AUTHENTICATE", Request::Authenticate(&[0; 16])),
+        ("BAUD", Request::Baud(9600)),
+        ("SIGNATURE", Request::Signature),
+        ("AREA", Request::Area(0)),
+        ("WRITE_DATA", Request::WriteData(&[0])),
+        ("NEXT", Request::Next { left: 1 }),
+    ];
+    for (name, request) in requests {
+        assert_eq!(
+            number(&format!("REQUEST_{}", name)),
+            request.number() as usize
+        );
+    }
+    for (name, reason) in [
+        ("HOST_WRONG_AMOUNT", Unbuilt::WrongAmount),
+        ("HOST_NOTHING_LEFT", Unbuilt::NothingLeft),
+        ("HOST_NO_ROOM", Unbuilt::NoRoom),
+    ] {
+        assert_eq!(number(name), reason.number() as usize);
+    }
+    let answer = |name| number(name) as u32;
+    let mut buffer = [0; 6];
+    assert_eq!(
+        raw::build(&mut buffer, 1, 0, 0, &[]),
+        (answer("HOST_DONE"), 6)
+    );
+    let no_request = answer("HOST_NO_REQUEST");
+    assert_eq!(raw::build(&mut buffer, 0, 0, 0, &[]), (no_request, 0));
+    assert_eq!(raw::judge_begin(&mut buffer, 0, 0, 0), no_request);
+    let wrong_length = answer("HOST_WRONG_LENGTH");
+    assert_eq!(raw::judge_begin(&mut buffer, 1, 0, 0), wrong_length);
+    for (name, verdict) in [
+        ("VERDICT_UNANSWERED", Verdict::Unanswered),
+        ("VERDICT_PASSED", Verdict::Passed),
+        ("VERDICT_WRONG_REPLY", Verdict::WrongReply),
+    ] {
+        assert_eq!(number(name), verdict.number() as usize);
+    }
+    let refused = number("VERDICT_REFUSED") + 0xD0;
+    assert_eq!(Verdict::Refused(0xD0).number() as usize, refused);
+    assert_eq!(raw::judge_verdict(&buffer), answer("VERDICT_NO_JUDGE"));
+}
+
+#[test]
+fn the_headers_places_are_those_of_a_judge() {
+    let mut judge = [0xA5; JUDGE_BYTES];
+    assert_eq!(raw::judge_begin(&mut judge, 4, 0x1122_3344, 0x5566_7788), 1);
+    let reply = [0xC3, 0x81, 0x03, 0x02, 0x15, 0xAB, 0xCD];
+    assert_eq!(raw::judge_take(&mut judge, &reply).verdict, 0);
+    let four = |name| judge[number(name)..][..4].to_vec();
+    let at = |name| &judge[number(name)..];
+    assert_eq!(at("JUDGE_AT_VERDICT")[..2], [0, 0]);
+    assert_eq!(at("JUDGE_AT_REQUEST")[0], 4);
+    assert_eq!(four("JUDGE_AT_FIRST"), 0x1122_3344u32.to_be_bytes());
+    assert_eq!(four("JUDGE_AT_SECOND"), 0x5566_7788u32.to_be_bytes());
+    assert_eq!(four("JUDGE_AT_COUNT"), 6u32.to_be_bytes());
+    assert_eq!(at("JUDGE_AT_LENGTH")[..2], [0x03, 0x02]);
+    assert_eq!(at("JUDGE_AT_RES")[0], 0x15);
+    let sum = reply[2..]
+        .iter()
+        .fold(0u8, |sum, byte| sum.wrapping_add(*byte));
+    assert_eq!(at("JUDGE_AT_SUM")[0], sum);
+    let mut data = [0; 17];
+    data[..2].copy_from_slice(&[0xAB, 0xCD]);
+    assert_eq!(at("JUDGE_AT_DATA"), data);
+}
+
+#[test]
+fn the_headers_places_are_those_of_what_a_judge_keeps() {
+    let mut device = awake();
+    let mut answered = |request: Request| {
+        let packet = request.packet().unwrap();
+        let (first, second) = match request {
+            Request::Area(number) => (u32::from(number), 0),
+            _ => (0, 0),
+        };
+        let reply = device.feed_all(&packet);
+        let mut bytes = [0; JUDGE_BYTES];
+        assert_eq!(
+            raw::judge_begin(&mut bytes, request.number(), first, second),
+            1
+        );
+        assert_eq!(raw::judge_take(&mut bytes, &reply).verdict, 1);
+        let mut judge = Judge::new(&request);
+        judge.take(&reply);
+        (judge, bytes[number("JUDGE_AT_DATA")..].to_vec())
+    };
+    let (judge, data) = answered(Request::Signature);
+    let signature = judge.signature().unwrap();
+    let at = |name| &data[number(name)..];
+    assert_eq!(at("SIGNATURE_AT_SCI")[..4], signature.sci.to_be_bytes());
+    assert_eq!(at("SIGNATURE_AT_RMB")[..4], signature.rmb.to_be_bytes());
+    assert_eq!(at("SIGNATURE_AT_NOA")[0], signature.noa);
+    assert_eq!(at("SIGNATURE_AT_TYP")[0], signature.typ);
+    assert_eq!(at("SIGNATURE_AT_BFV")[..2], signature.bfv.to_be_bytes());
+    let (judge, data) = answered(Request::Area(0));
+    let area = judge.area().unwrap();
+    let at = |name| &data[number(name)..];
+    assert_eq!(at("AREA_AT_KOA")[0], area.koa);
+    assert_eq!(at("AREA_AT_SAD")[..4], area.sad.to_be_bytes());
+    assert_eq!(at("AREA_AT_EAD")[..4], area.ead.to_be_bytes());
+    assert_eq!(at("AREA_AT_EAU")[..4], area.eau.to_be_bytes());
+    assert_eq!(at("AREA_AT_WAU")[..4], area.wau.to_be_bytes());
 }
 
 #[test]
@@ -181,9 +297,11 @@ fn examples() -> Vec<String> {
 #[test]
 fn the_headers_examples_are_the_ones_that_are_compiled() {
     let compiled = |file: &str| file.split_once('\n').unwrap().1.to_owned();
-    let [device, reading, writing]: [String; 3] = examples().try_into().unwrap();
+    let [device, host, reading, writing]: [String; 4] = examples().try_into().unwrap();
     assert!(device.lines().count() > 10);
     assert_eq!(device, compiled(EXAMPLE));
+    assert!(host.lines().count() > 10);
+    assert_eq!(host, compiled(ASK));
     assert!(reading.lines().count() > 10 && writing.lines().count() > 10);
     assert_eq!(reading + "\n" + &writing, compiled(RECORDING));
 }

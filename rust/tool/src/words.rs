@@ -2,27 +2,10 @@
 
 use crate::line::Exchange;
 use crate::number::{address, bytes, grouped, hex};
+use indraveck::host::status_in_words;
 use indraveck::Stage;
 
 const TOTAL_ERASE: [u8; 16] = *b"ALeRASE\xFF\xFF\xFF\xFF\xFF\xFF\xFF\xFF\xFF";
-
-/// A status code's meaning.
-pub fn meaning(code: u8) -> &'static str {
-    match code {
-        0x00 => "OK",
-        0xC0 => "unknown command",
-        0xC1 => "packet error: wrong length, end byte or contents",
-        0xC2 => "checksum error",
-        0xC3 => "wrong stage for this command",
-        0xD0 => "address error: the range is not one that this command takes, or no such area",
-        0xD4 => "this baud rate cannot be set",
-        0xDA => "outside the window",
-        0xDB => "the ID code is another one",
-        0xDC => "the ID code forbids a connection",
-        0xE2 => "the target is not blank; nothing of this packet was written",
-        _ => "a code of its own",
-    }
-}
 
 fn four(part: &[u8]) -> u32 {
     part.iter()
@@ -113,7 +96,7 @@ fn reply(exchange: &Exchange) -> String {
         (Stage::Setting { .. }, [0xC3]) => "C3h, the device is awake".to_string(),
         // a read of one byte is as long as a status
         (_, [0x81, 0x00, 0x02, res, status, _, 0x03]) if *res != 0x15 => {
-            format!("{:02X}h {}", status, meaning(*status))
+            format!("{:02X}h {}", status, status_in_words(*status))
         }
         (_, [0x81, _, _, 0x15, ..]) => format!("{} read", bytes(data(4).len() as u64)),
         (_, [0x81, 0x00, 0x0D, 0x3A, ..]) => signature(data(4)),
