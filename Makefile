@@ -10,8 +10,8 @@ help:
 	@echo "make archive       proves the library and keeps it in lib/"
 	@echo "make archive-check proves the library and compares it with the one in lib/"
 	@echo "make install       header, library and pkg-config file, below PREFIX (/usr/local); install-tool: the tool; uninstall: takes all away"
-	@echo "make test          the tool on real ports; the library beside the independent model on 20,000 random histories, 4,000 recordings and the systematic ones"
-	@echo "make long-test     the same with a million histories and 200,000 recordings"
+	@echo "make test          the tool on real ports; the library beside the independent model on 20,000 random histories, 4,000 recordings, 20,000 exchanges and the systematic ones"
+	@echo "make long-test     the same with a million histories, 200,000 recordings and a million exchanges"
 	@echo "make more-edits    the wrong versions that the gate leaves out for time"
 	@echo "make bench         measures both in one run and prints the ratios; the blank check by itself too"
 	@echo "make count         counts the instructions that both execute"
@@ -81,7 +81,7 @@ uninstall:
 	rm -f "$(DESTDIR)$(INCLUDEDIR)/indraveck.h" "$(DESTDIR)$(LIBDIR)/libindraveck.a" "$(DESTDIR)$(LIBDIR)/pkgconfig/indraveck.pc" "$(DESTDIR)$(BINDIR)/indraveck"
 
 long-test: library
-	HISTORIES=1000000 RECORDINGS=200000 $(CARGO) test --offline --release -p indraveck-evidence --test histories --test recordings -- --nocapture
+	HISTORIES=1000000 RECORDINGS=200000 EXCHANGES=1000000 $(CARGO) test --offline --release -p indraveck-evidence --test histories --test recordings --test exchanges -- --nocapture
 
 more-edits:
 	./more-edits

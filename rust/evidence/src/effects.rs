@@ -152,3 +152,26 @@ pub(crate) fn replay_ended(ended: u32) -> &'static str {
         _ => "replay ended otherwise",
     }
 }
+
+/// The effect's name of building a packet, by the answer.
+pub(crate) fn packet_built(answer: u32) -> &'static str {
+    match answer {
+        1 => "packet built",
+        2 => "packet refused with 2",
+        3 => "packet refused with 3",
+        4 => "packet refused with 4",
+        5 => "packet refused with 5",
+        _ => "packet built otherwise",
+    }
+}
+
+/// The effect's name of a verdict.
+pub(crate) fn judged(verdict: u32) -> &'static str {
+    match verdict {
+        0 => "judge unanswered",
+        1 => "judge passed",
+        2 => "judge said wrong reply",
+        257..=511 => "judge refused",
+        _ => "judge said otherwise",
+    }
+}

@@ -1,10 +1,13 @@
 //! The proved library beside an independent model.
 //!
 //! A [`Line`] lends both the same bytes, makes the same calls on both and compares everything that comes back. [`histories`] makes
-//! random calls, [`systematic`] goes through the boundaries one by one, and [`session`] is what the benchmarks measure. [`recordings`]
-//! does the same for recorded lines: random ones, and the boundaries of their records.
+//! random calls, and [`systematic`] goes through the boundaries one by one. [`recordings`] does the same for recorded lines: random ones,
+//! and the boundaries of their records; [`exchanges`] for the host's end: requests built, and replies judged. [`session`] and [`errands`]
+//! are what the benchmarks measure.
 
 mod effects;
+pub mod errands;
+pub mod exchanges;
 mod guarded;
 pub mod histories;
 mod line;
@@ -21,7 +24,8 @@ pub use line::{Lent, Line, Pair};
 pub use noise::Noise;
 #[cfg(feature = "proved")]
 pub use subject::Proved;
-pub use subject::{Fed, Model, Subject, BUFFER_BYTES, PROFILE_BYTES, STATE_BYTES};
+pub use subject::{Fed, Judge, Model, Numbers, Said, Subject};
+pub use subject::{BUFFER_BYTES, PROFILE_BYTES, STATE_BYTES};
 
 /// What the tests compare with the model: the proved library, or where it isn't linked the model itself.
 pub fn tested() -> Box<dyn Subject> {

@@ -1,6 +1,6 @@
-//! The two devices behind one interface of bytes.
+//! The two devices, and the two hosts, behind one interface of bytes.
 
-use indraveck_model::{self as model, Fault, Found, Replayed};
+use indraveck_model::{self as model, Fault, Found, Replayed, Request, Taken, Unbuilt};
 use std::ops::Range;
 
 pub const PROFILE_BYTES: usize = 156;
@@ -25,7 +25,153 @@ impl Fed {
     }
 }
 
-/// A device as `include/indraveck.h` describes it.
+/// A request as numbers, or three numbers that are none.
+#[derive(Clone, Copy, Debug, PartialEq, Eq)]
+pub struct Numbers {
+    pub request: u32,
+    pub first: u32,
+    pub second: u32,
+}
+
+/// A judge of replies, of either subject. It is kept by value, so that what is measured makes no other calls.
+#[derive(Clone)]
+pub enum Judge {
+    #[cfg(feature = "proved")]
+    Proved(JudgeBytes),
+    Model(Option<Fault>, model::Judge),
+}
+
+/// What a judge says when it is asked.
+#[derive(Clone, Debug, PartialEq, Eq)]
+pub struct Said {
+    pub verdict: u32,
+    /// The first data bytes of the reply.
+    pub kept: [u8; 17],
+    pub sci: Option<u32>,
+    pub area: Option<model::Area>,
+}
+
+impl Judge {
+    /// The verdict behind some bytes, and what was taken of them.
+    #[inline]
+    pub fn take(&mut self, bytes: &[u8]) -> (u32, Taken) {
+        match self {
+            #[cfg(feature = "proved")]
+            Judge::Proved(judge) => judge.take(bytes),
+            Judge::Model(None, judge) => {
+                let taken = judge.take(bytes);
+                (judge.verdict().number(), taken)
+            }
+            Judge::Model(fault, judge) => {
+                let taken = judge.take_with(*fault, bytes);
+                (judge.verdict().number(), taken)
+            }
+        }
+    }
+
+    pub fn said(&self) -> Said {
+        match self {
+            #[cfg(feature = "proved")]
+            Judge::Proved(judge) => judge.said(),
+            Judge::Model(fault, judge) => Said {
+                verdict: judge.verdict().number(),
+                kept: *judge.kept(),
+                sci: judge.sci_with(*fault),
+                area: judge.area_with(*fault),
+            },
+        }
+    }
+
+    /// Whether what is around its bytes is as it was, where it has bytes.
+    pub fn is_guarded(&self) -> bool {
+        match self {
+            #[cfg(feature = "proved")]
+            Judge::Proved(judge) => judge.is_guarded(),
+            Judge::Model(..) => true,
+        }
+    }
+}
+
+/// The library's judge, in the middle of bytes that nobody may touch.
+#[cfg(feature = "proved")]
+#[derive(Clone)]
+pub struct JudgeBytes([u8; JUDGE_GUARD + JUDGE_BYTES + JUDGE_GUARD]);
+
+#[cfg(feature = "proved")]
+const JUDGE_BYTES: usize = 36;
+#[cfg(feature = "proved")]
+const JUDGE_GUARD: usize = 6;
+
+#[cfg(feature = "proved")]
+impl JudgeBytes {
+    const GUARD: u8 = 0x6B;
+
+    fn begin(numbers: Numbers) -> Option<JudgeBytes> {
+        let mut judge = JudgeBytes([JudgeBytes::GUARD; JUDGE_GUARD + JUDGE_BYTES + JUDGE_GUARD]);
+        let Numbers {
+            request,
+            first,
+            second,
+        } = numbers;
+        match indraveck::raw::judge_begin(judge.lent_mut(), request, first, second) {
+            1 => Some(judge),
+            5 => {
+                let untouched = judge.0.iter().all(|byte| *byte == JudgeBytes::GUARD);
+                assert!(untouched, "a judge that was not begun is left");
+                None
+            }
+            answer => panic!("a judge was begun with {}", answer),
+        }
+    }
+
+    fn lent(&self) -> &[u8] {
+        &self.0[JUDGE_GUARD..JUDGE_GUARD + JUDGE_BYTES]
+    }
+
+    fn lent_mut(&mut self) -> &mut [u8] {
+        &mut self.0[JUDGE_GUARD..JUDGE_GUARD + JUDGE_BYTES]
+    }
+
+    #[inline]
+    fn take(&mut self, bytes: &[u8]) -> (u32, Taken) {
+        let taken = indraveck::raw::judge_take(self.lent_mut(), bytes);
+        let (count, from, to) = (taken.count, taken.from, taken.to);
+        (taken.verdict, Taken { count, from, to })
+    }
+
+    /// By the header's places.
+    fn said(&self) -> Said {
+        let judge = self.lent();
+        let verdict = indraveck::raw::judge_verdict(judge);
+        let mut kept = [0; 17];
+        kept.copy_from_slice(&judge[19..]);
+        let four =
+            |at: usize| u32::from_be_bytes([kept[at], kept[at + 1], kept[at + 2], kept[at + 3]]);
+        let area = model::Area {
+            koa: kept[0],
+            sad: four(1),
+            ead: four(5),
+            eau: four(9),
+            wau: four(13),
+        };
+        let passed = |request: u8| verdict == 1 && judge[2] == request;
+        Said {
+            verdict,
+            kept,
+            sci: passed(7).then(|| four(0)),
+            area: passed(8).then_some(area),
+        }
+    }
+
+    fn is_guarded(&self) -> bool {
+        let guards = self.0[..JUDGE_GUARD]
+            .iter()
+            .chain(&self.0[JUDGE_GUARD + JUDGE_BYTES..]);
+        guards.into_iter().all(|byte| *byte == JudgeBytes::GUARD)
+    }
+}
+
+/// A device and a host as `include/indraveck.h` describes them.
 pub trait Subject {
     /// What a difference calls it.
     fn name(&self) -> String;
@@ -57,6 +203,12 @@ pub trait Subject {
     ) -> (u32, usize);
 
     fn replay(&self, profile: &[u8], image: &mut [u8], recording: &[u8]) -> Replayed;
+
+    /// Builds the packet of a request: the answer, and how long the packet is.
+    fn build(&self, buffer: &mut [u8], numbers: Numbers, bytes: &[u8]) -> (u32, usize);
+
+    /// A judge of the reply to a request; `None` if there is no such request.
+    fn judge(&self, numbers: Numbers) -> Option<Judge>;
 }
 
 /// The proved library.
@@ -125,6 +277,39 @@ impl Subject for Proved {
             ended: replayed.ended,
         }
     }
+
+    #[inline]
+    fn build(&self, buffer: &mut [u8], numbers: Numbers, bytes: &[u8]) -> (u32, usize) {
+        let Numbers {
+            request,
+            first,
+            second,
+        } = numbers;
+        indraveck::raw::build(buffer, request, first, second, bytes)
+    }
+
+    #[inline]
+    fn judge(&self, numbers: Numbers) -> Option<Judge> {
+        JudgeBytes::begin(numbers).map(Judge::Proved)
+    }
+}
+
+/// The request that has these numbers, as the model has it.
+pub(crate) fn request_of(numbers: Numbers) -> Option<Request> {
+    let (sad, ead) = (numbers.first, numbers.second);
+    Some(match (numbers.request, numbers.first, numbers.second) {
+        (1, 0, 0) => Request::Inquiry,
+        (2, _, _) => Request::Erase { sad, ead },
+        (3, _, _) => Request::Write { sad, ead },
+        (4, _, _) => Request::Read { sad, ead },
+        (5, 0, 0) => Request::Authenticate,
+        (6, brt, 0) => Request::Baud(brt),
+        (7, 0, 0) => Request::Signature,
+        (8, number @ 0..=0xFF, 0) => Request::Area(number as u8),
+        (9, 0, 0) => Request::WriteData,
+        (10, left, 0) => Request::Next { left },
+        _ => return None,
+    })
 }
 
 /// The model, right or with one deliberate fault. It decodes profile and state at each call, as the library has to.
@@ -260,5 +445,33 @@ impl Subject for Model {
             None => model::replay_recording(&profile, image, recording),
             fault => model::replay_recording_with(fault, &profile, image, recording),
         }
+    }
+
+    #[inline]
+    fn build(&self, buffer: &mut [u8], numbers: Numbers, bytes: &[u8]) -> (u32, usize) {
+        let request = match request_of(numbers) {
+            Some(request) => request,
+            None => return (5, 0),
+        };
+        let built = match self.0 {
+            None => model::build(request, bytes, buffer),
+            fault => model::build_with(fault, request, bytes, buffer),
+        };
+        match built {
+            Ok(length) => (1, length),
+            Err(Unbuilt::WrongAmount) => (2, 0),
+            Err(Unbuilt::NothingLeft) => (3, 0),
+            Err(Unbuilt::NoRoom) => (4, 0),
+        }
+    }
+
+    #[inline]
+    fn judge(&self, numbers: Numbers) -> Option<Judge> {
+        let request = request_of(numbers)?;
+        let judge = match self.0 {
+            None => model::Judge::start(request),
+            fault => model::Judge::start_with(fault, request),
+        };
+        Some(Judge::Model(self.0, judge))
     }
 }

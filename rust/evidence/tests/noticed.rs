@@ -1,15 +1,15 @@
 //! Every deliberate fault is noticed by the same comparison: agreement of the library with the model is not for want of looking.
 
 use indraveck_evidence::systematic::{self, Case};
-use indraveck_evidence::{histories, recordings, Model, Pair};
+use indraveck_evidence::{exchanges, histories, recordings, Model, Pair};
 use indraveck_model::Fault;
 use proptest::strategy::{Strategy, ValueTree};
 use proptest::test_runner::{Config, RngAlgorithm, TestRng, TestRunner};
 
-/// How many random histories or recordings a fault may hide in, before only the systematic ones are left to notice it.
+/// How many random histories, recordings or exchanges a fault may hide in, before only the systematic ones are left to notice it.
 const MOST: u32 = 3_000;
 
-/// The number of the history or recording that noticed, with the difference.
+/// The number of the history, recording or exchange that noticed, with the difference.
 fn in_random<S: Strategy>(
     fault: Fault,
     strategy: S,
@@ -51,12 +51,36 @@ fn and_so_are_those_of_recordings() {
     notice(Fault::OF_RECORDINGS.iter(), in_recordings);
 }
 
-/// Those of the host's end show in the model's own tests.
+#[test]
+fn and_so_are_those_of_the_hosts_end() {
+    let faults = Fault::OF_HOST.iter();
+    notice(faults.filter(|fault| !PLANS.contains(fault)), in_exchanges);
+}
+
+/// Faults of plans show in the model's own tests: no function for other languages plans.
+const PLANS: [Fault; 14] = [
+    Fault::PartsOf1025,
+    Fault::UnitsCut,
+    Fault::OneUnitAPart,
+    Fault::EmptyPartPlanned,
+    Fault::LastPartFull,
+    Fault::WriteNotAskedFor,
+    Fault::LessDataPlanned,
+    Fault::Unit1025Planned,
+    Fault::Unit1024Refused,
+    Fault::UnitBeforeRange,
+    Fault::EndBeforeStart,
+    Fault::AmountBeforeAlignment,
+    Fault::PlanAlignsEadItself,
+    Fault::PlannedEndWraps,
+];
+
 #[test]
 fn no_fault_is_left_out() {
     let looked_for = [Fault::OF_DEVICE, Fault::OF_RECORDINGS, Fault::OF_HOST].concat();
     assert_eq!(looked_for, Fault::ALL);
     assert!(Fault::OF_DEVICE.len() >= 37 && Fault::OF_RECORDINGS.len() >= 33);
+    assert!(Fault::OF_HOST.len() >= 50 + PLANS.len());
 }
 
 /// Where a fault was noticed: at random, and in which case.
@@ -70,6 +94,11 @@ fn in_device(fault: Fault) -> Noticed {
 fn in_recordings(fault: Fault) -> Noticed {
     let random = in_random(fault, recordings::recordings(), recordings::play);
     (random, in_cases(fault, recordings::CASES))
+}
+
+fn in_exchanges(fault: Fault) -> Noticed {
+    let random = in_random(fault, exchanges::exchanges(), exchanges::play);
+    (random, in_cases(fault, exchanges::CASES))
 }
 
 fn notice(faults: impl Iterator<Item = &'static Fault>, look: fn(Fault) -> Noticed) {

@@ -1,12 +1,13 @@
 //! Boundaries one by one, on the library and the model.
 
 use indraveck_evidence::systematic::{self, Case};
-use indraveck_evidence::{recordings, tested, Model, Pair};
+use indraveck_evidence::{exchanges, recordings, tested, Model, Pair};
 use std::time::Instant;
 
-/// Those of the device, and those of recordings.
+/// Those of the device, those of recordings, and those of the host's end.
 fn cases() -> impl Iterator<Item = &'static Case> {
-    systematic::CASES.iter().chain(recordings::CASES)
+    let cases = systematic::CASES.iter().chain(recordings::CASES);
+    cases.chain(exchanges::CASES)
 }
 
 fn check(name: &str) {
@@ -69,4 +70,12 @@ cases! {
     places_of_records,
     records_written,
     records_read,
+    exchange_examples,
+    numbers_of_requests,
+    replies_cut,
+    lengths_of_reads,
+    packets_built,
+    lengths_of_replies,
+    codes_of_replies,
+    replies_changed,
 }
