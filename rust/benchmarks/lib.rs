@@ -1,6 +1,8 @@
 //! What is measured, row by row, for the table of times and for the count of instructions. Benchmarks stand in a crate of their own so
 //! that the tests need not build what only these use.
 
+use criterion::black_box;
+use indraveck_evidence::errands::Errand;
 use indraveck_evidence::session::{Delivery, Memory, Script, Session, DELIVERIES};
 use indraveck_evidence::{Model, Subject};
 
@@ -14,6 +16,8 @@ enum Work<'a> {
     Read,
     /// Writes it down again.
     Write,
+    /// What a host does, without a device.
+    Host(&'a Errand),
 }
 
 pub struct Row<'a> {
@@ -26,7 +30,7 @@ pub struct Row<'a> {
     wake_up: bool,
     check: fn(&Session, &Memory, usize),
     /// The same bytes filled, copied or compared without a device.
-    pub limit: fn(&Session, &mut Memory) -> usize,
+    limit: fn(&Session, &mut Memory) -> usize,
 }
 
 impl Row<'_> {
@@ -48,17 +52,29 @@ impl Row<'_> {
         }
     }
 
-    /// What is measured. How many reply bytes came, or how many bytes a recording has.
+    /// What is measured. How many reply bytes came, how many bytes a recording has, or how many a host built or took.
     pub fn run(&self, subject: &dyn Subject, memory: &mut Memory) -> usize {
         match self.work {
             Work::Feed(script, delivery) => self.session.run(subject, memory, script, delivery),
             Work::Read => self.session.read_tape(subject),
             Work::Write => self.session.write_tape(subject, memory),
+            Work::Host(errand) => errand.run(subject),
         }
     }
 
     pub fn check(&self, memory: &Memory, count: usize) {
-        (self.check)(self.session, memory, count);
+        match self.work {
+            Work::Host(errand) => errand.check(count),
+            _ => (self.check)(self.session, memory, count),
+        }
+    }
+
+    /// The same without a subject.
+    pub fn limit(&self, memory: &mut Memory) -> usize {
+        match self.work {
+            Work::Host(errand) => plainly(errand, memory),
+            _ => (self.limit)(self.session, memory),
+        }
     }
 
     /// Whether a round takes millions of calls.
@@ -68,6 +84,24 @@ impl Row<'_> {
 }
 
 fn nothing(_: &Session, _: &mut Memory) {}
+
+/// The limit of an errand: the packet copied, or the reply's bytes added up.
+fn plainly(errand: &Errand, memory: &mut Memory) -> usize {
+    let bytes = errand.bytes();
+    let mut count = 0;
+    for _ in 0..errand.times() {
+        let bytes = black_box(bytes);
+        if errand.builds() {
+            memory.back[..bytes.len()].copy_from_slice(bytes);
+            black_box(&mut memory.back);
+        } else {
+            let sum = bytes.iter().fold(0u8, |sum, byte| sum.wrapping_add(*byte));
+            black_box(sum);
+        }
+        count += bytes.len();
+    }
+    count
+}
 
 fn whole(session: &Session, delivery: Delivery) -> Row {
     Row {
@@ -181,13 +215,27 @@ fn recordings(session: &Session) -> Vec<Row> {
     ]
 }
 
-/// The table: whole sessions of both sizes in every delivery, the parts of the large one, and its recording.
-pub fn rows<'a>(small: &'a Session, large: &'a Session) -> Vec<Row<'a>> {
+/// The host's end, which needs no session: one that is there lends the memory.
+fn host<'a>(session: &'a Session, errand: &'a Errand) -> Row<'a> {
+    Row {
+        name: errand.name.clone(),
+        session,
+        work: Work::Host(errand),
+        prepare: nothing,
+        wake_up: false,
+        check: |_, _, _| {},
+        limit: |_, _| 0,
+    }
+}
+
+/// The table: whole sessions of both sizes in every delivery, the parts of the large one, and its recording; then the host's end.
+pub fn rows<'a>(small: &'a Session, large: &'a Session, errands: &'a [Errand]) -> Vec<Row<'a>> {
     let mut rows = Vec::new();
     for session in [small, large] {
         rows.extend(DELIVERIES.iter().map(|delivery| whole(session, *delivery)));
     }
     rows.extend(parts(large));
     rows.extend(recordings(large));
+    rows.extend(errands.iter().map(|errand| host(small, errand)));
     rows
 }

@@ -3,6 +3,7 @@
 
 use criterion::black_box;
 use indraveck_benchmarks::{rows, Row, MODEL};
+use indraveck_evidence::errands::errands;
 use indraveck_evidence::session::{machine, Memory, Session};
 #[cfg(feature = "proved")]
 use indraveck_evidence::Proved;
@@ -30,7 +31,7 @@ fn subject(row: &Row, subject: &dyn Subject, memory: &mut Memory) -> Duration {
 
 fn limit(row: &Row, memory: &mut Memory) -> Duration {
     row.prepare_flash(memory);
-    timed(|| (row.limit)(row.session, memory))
+    timed(|| row.limit(memory))
 }
 
 fn print(row: &Row) {
@@ -91,5 +92,5 @@ fn main() {
     println!("|---|--:|--:|--:|--:|--:|--:|");
     let small = Session::new(0x1_0000, 128);
     let large = Session::new(0x40_0000, 1024);
-    rows(&small, &large).iter().for_each(print);
+    rows(&small, &large, &errands()).iter().for_each(print);
 }

@@ -3,6 +3,7 @@
 //! round is only prepared, so that the difference of both counts is the work itself.
 
 use indraveck_benchmarks::{rows, MODEL};
+use indraveck_evidence::errands::errands;
 use indraveck_evidence::session::Session;
 use indraveck_evidence::{Proved, Subject};
 use std::process::exit;
@@ -22,7 +23,8 @@ fn main() {
     let small = Session::new(0x1_0000, 128);
     // instructions do not vary, so that a smaller one than for times will do
     let large = Session::new(0x10_0000, 1024);
-    let rows = rows(&small, &large);
+    let errands = errands();
+    let rows = rows(&small, &large, &errands);
     let (subject, row, rounds, idle) = match words[..] {
         ["rows"] => {
             rows.iter().for_each(|row| println!("{}", row.name));
