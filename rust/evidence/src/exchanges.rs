@@ -415,10 +415,13 @@ fn called(count: usize, least: usize) -> Outcome {
     Err(format!("{} calls were made, expected {}", count, least))
 }
 
+/// A request with its bytes and a buffer's length; the answer and the packet.
+type Building<'a> = (Numbers, &'a [u8], usize, u32, &'a [u8]);
+
 /// Answers that are known beforehand.
 fn exchange_examples(pair: &Pair) -> Outcome {
     let total = &packets::TOTAL_ERASE[..];
-    let to_build: [(Numbers, &[u8], usize, u32, &[u8]); 19] = [
+    let to_build: [Building; 19] = [
         (asked(1, 0, 0), &[], 9, 1, &[1, 0, 1, 0, 0xFF, 3]),
         (
             asked(2, 0x4000, 0x7FFF),
