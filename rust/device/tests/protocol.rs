@@ -3,6 +3,7 @@
 mod common;
 
 use common::{awake, blank, packet, range, WAKE};
+use indraveck::host::{Judge, Request, Verdict};
 use indraveck::recording::{read, Direction, Found, Record, Unreadable};
 use indraveck::{Device, Profile};
 
@@ -231,5 +232,56 @@ fn records_are_read_as_written() {
             None => Err(faults.iter().find(|known| known.0 == row[1]).unwrap().1),
         };
         assert_eq!(read(&recording, 0), expected, "{row:?}");
+    }
+}
+
+/// The request that a cell names.
+fn request(cell: &str) -> Request<'static> {
+    let words: Vec<&str> = cell
+        .split([' ', ','])
+        .filter(|word| !word.is_empty())
+        .collect();
+    match words[..] {
+        ["inquiry"] => Request::Inquiry,
+        ["erase", sad, "to", ead] => Request::Erase {
+            sad: number(sad),
+            ead: number(ead),
+        },
+        ["read", sad, "to", ead] => Request::Read {
+            sad: number(sad),
+            ead: number(ead),
+        },
+        ["next", left, "left"] => Request::Next { left: number(left) },
+        ["write", "data"] => Request::WriteData(&[0xFF]),
+        ["area", n] => Request::Area(number(n) as u8),
+        _ => panic!("no request: {cell}"),
+    }
+}
+
+#[test]
+fn replies_are_judged_as_written() {
+    let rows = table("18.12");
+    assert_eq!(rows.len(), 32);
+    for row in rows {
+        let back = bytes(&row[1]);
+        let expected = match row[2].as_str() {
+            "unanswered" => Verdict::Unanswered,
+            "passed" => Verdict::Passed,
+            "wrong reply" => Verdict::WrongReply,
+            words => match words.strip_prefix("refused ") {
+                Some(code) => Verdict::Refused(number(code) as u8),
+                None => panic!("no verdict: {words}"),
+            },
+        };
+        let mut judge = Judge::new(&request(&row[0]));
+        assert_eq!(judge.verdict(), Verdict::Unanswered, "{row:?}");
+        judge.take(&back);
+        assert_eq!(judge.verdict(), expected, "{row:?}");
+        // one byte after the other says the same
+        let mut slow = Judge::new(&request(&row[0]));
+        for byte in &back {
+            slow.take(&[*byte]);
+        }
+        assert_eq!(slow.verdict(), expected, "{row:?}");
     }
 }
