@@ -10,4 +10,5 @@ mod profiles;
 mod rates;
 mod record;
 mod recording;
+mod show_host;
 mod vectors;
