@@ -12,7 +12,6 @@ use Rattle.host_request.specs.declared.Built.{Built}
 use Rattle.host_request.specs.declared.Built.the-variants.{Is, Refused}
 use Rattle.host_request.specs.Request.{packetFor}
 use Rattle.host_request.specs.Build.{unbuilt, builtBy, placedBy}
-use Rattle.host_judge.specs.declared.Taken.{Taken}
 use Rattle.host_judge.specs.Reply.{judgementNumber}
 use Rattle.host_judge.specs.Judge.{freshJudge, takenOf}
 use Rattle.host_bytes.specs.declared.RequestIn.{RequestIn}
