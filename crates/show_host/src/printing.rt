@@ -1,5 +1,4 @@
-// What the lines are made of: words, numbers, bytes, requests and answers.
-use host_judge::Judgement;
+// Bytes, requests and refusals in words.
 use host_plan::Unplanned;
 use host_request::Request;
 use host_request::Unbuilt;
@@ -80,20 +79,6 @@ pub(crate) fn print_unbuilt(why: Unbuilt) {
         Unbuilt::NothingLeft => print(b"nothing left"),
         Unbuilt::NoRoom => print(b"no room"),
     }
-}
-
-pub(crate) fn print_judgement(judgement: Judgement) {
-    match judgement {
-        Judgement::Unanswered => print(b"unanswered"),
-        Judgement::Passed => print(b"passed"),
-        Judgement::WrongReply => print(b"wrong reply"),
-        Judgement::Refused(code) => {
-            print(b"refused ");
-            print_byte(code);
-            print(b"h");
-        }
-    }
-    print_number(b" ", host_judge::judgement_number(judgement) as usize);
 }
 
 pub(crate) fn print_unplanned(why: Unplanned) {

@@ -1,4 +1,5 @@
-//! Prints what `crates/show_host` has to print, worked out by the model.
+//! Prints what `crates/show_host` has to print, worked out by the model; with
+//! the word `judge`, what `crates/show_judge` has to.
 //!
 //! `./cargo run --offline -p indraveck-model --example show_host`
 
@@ -12,5 +13,8 @@ mod host_counts;
 mod show_host;
 
 fn main() {
-    print!("{}", show_host::text());
+    match std::env::args().nth(1).as_deref() {
+        Some("judge") => print!("{}", show_host::replies()),
+        _ => print!("{}", show_host::requests()),
+    }
 }

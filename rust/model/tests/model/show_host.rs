@@ -1,5 +1,6 @@
-//! What `crates/show_host` has to print, worked out by the model: what that
-//! program is compared with is this, and not its own output.
+//! What `crates/show_host` and `crates/show_judge` have to print, worked out by
+//! the model: what these programs are compared with is this, and not their own
+//! output.
 
 use crate::bench::{self, hex};
 use crate::host_counts;
@@ -27,23 +28,30 @@ macro_rules! say {
     };
 }
 
-/// All that the program has to print.
-pub fn text() -> String {
+/// What these print.
+fn said(parts: &[fn()]) -> String {
     SAID.with(|said| said.borrow_mut().clear());
-    packets();
-    amounts();
-    room();
-    replies();
-    noise_and_lengths();
-    cuts();
-    longest();
-    plans();
-    no_plans();
+    for part in parts {
+        part();
+    }
+    SAID.with(|said| said.borrow().clone())
+}
+
+/// All that `show_host` has to print.
+pub fn requests() -> String {
+    said(&[packets, amounts, room, plans, no_plans])
+}
+
+/// All that `show_judge` has to print.
+pub fn replies() -> String {
+    said(&[lines, noise_and_lengths, cuts, longest, counts])
+}
+
+fn counts() {
     title("each byte changed to every value: unanswered passed refused wrong");
     for line in host_counts::lines() {
         say!("{line}");
     }
-    SAID.with(|said| said.borrow().clone())
 }
 
 fn title(words: &str) {
@@ -188,7 +196,7 @@ fn hear_in_two(request: Request, bytes: &[u8], at: usize) {
     say!("cut at {at}: {between}; {behind}");
 }
 
-fn replies() {
+fn lines() {
     title("replies");
     let table = [
         (
@@ -320,7 +328,10 @@ fn no_plans() {
 }
 
 #[test]
-fn the_program_is_compared_with_this() {
-    let path = concat!(env!("CARGO_MANIFEST_DIR"), "/../../crates/show_host/stdout");
-    assert_eq!(std::fs::read_to_string(path).unwrap(), text());
+fn the_programs_are_compared_with_this() {
+    let crates = concat!(env!("CARGO_MANIFEST_DIR"), "/../../crates");
+    for (name, text) in [("show_host", requests()), ("show_judge", replies())] {
+        let expected = std::fs::read_to_string(format!("{crates}/{name}/stdout")).unwrap();
+        assert_eq!(expected, text, "{name}");
+    }
 }

@@ -1,8 +1,8 @@
--- `show_host::hear_cuts` is safe and ends. It counts to thirteen. Assumes nothing.
+-- `show_judge::hear_cuts` is safe and ends. It counts to thirteen. Assumes nothing.
 use Prim.Native.Nat.{_-_}
 use borrow.Author.Needs.{needs}
-use Rattle.show_host.proofs.hear_cuts.Statement.{statement}
-use Rattle.show_host.proofs.hear_cuts.Tie as tie
+use Rattle.show_judge.proofs.hear_cuts.Statement.{statement}
+use Rattle.show_judge.proofs.hear_cuts.Tie as tie
 
 abbrev Inv-loop : tie.InvT-loop
 Inv-loop bytes at₀ at = Unit {0}
