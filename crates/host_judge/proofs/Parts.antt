@@ -7,8 +7,8 @@ use Prim.Native.Nat.{ℕ, suc, _+_, _-_, _≤_, _<_, min}
 use native.Mathlib.Nat.{zero-add}
 use native.Mathlib.Numerals.{add-one}
 use native.Mathlib.Omega.{arith}
-use lib.ListN.{length, take, drop, getD, length-drop}
-use lib.Seq.{length-take-le}
+use lib.ListN.{length, take, drop, getD, length-drop, drop-of-length-le}
+use lib.Seq.{drop-cons, length-take-le}
 use lib.Dec.{leb, ltb, eqb}
 use borrow.Author.Tests.{leb-true, leb-false, ltb-true, ltb-false, eqb-true, eqb-false, eq-eqb, ne-eqb}
 use Rattle.packet.specs.declared.Kind.the-variants.{Data as DataPacket}
@@ -37,6 +37,20 @@ mark-there (b ∷ bytes) h = by (eqb b (startOf DataPacket)) refl h (mark-there 
         → getD (b ∷ bytes) (cond t 0 (suc (markPlace bytes))) 0 ≡ startOf DataPacket
     by true e h later = eqb-true b (startOf DataPacket) e
     by false e h later = later (omega arith)
+
+-- it stands here, or further on; behind the bytes it does not stand
+pub mark-here : (bytes : List ℕ) (i : ℕ) → i < length bytes → getD bytes i 0 ≡ startOf DataPacket → markPlace (drop i bytes) ≡ 0
+unfolding markPlace
+mark-here bytes i h e = rw (drop-cons bytes i 0 h, eq-eqb (getD bytes i 0) (startOf DataPacket) e) refl
+
+pub mark-further : (bytes : List ℕ) (i : ℕ) → i < length bytes → (getD bytes i 0 ≡ startOf DataPacket → ⊥)
+    → markPlace (drop i bytes) ≡ suc (markPlace (drop (i + 1) bytes))
+unfolding markPlace
+mark-further bytes i h e = rw (drop-cons bytes i 0 h, ne-eqb (getD bytes i 0) (startOf DataPacket) e, add-one) refl
+
+pub mark-over : (bytes : List ℕ) (i : ℕ) → length bytes ≤ i → markPlace (drop i bytes) ≡ 0
+unfolding markPlace
+mark-over bytes i h = rw (drop-of-length-le bytes h) refl
 
 -- it stands among the bytes or behind them
 pub mark-within : (bytes : List ℕ) → markPlace bytes ≤ length bytes

@@ -6,10 +6,11 @@ use mathlib.Core.Path.{_≡_, refl, sym, ap, _∙_}
 use Prim.Native.Nat.{ℕ, zero, suc, _+_, _-_, _%_, _≤_, _<_, min}
 use native.Mathlib.Nat.{mod-add-mod, add-zero}
 use native.Mathlib.Omega.{arith}
-use lib.ListN.{length, take, drop, getD, set, length-drop, take-append-drop, drop-of-length-le}
-use lib.Seq.{sets, drop-cons, drop-drop, length-take-le}
-use lib.Dec.{ltb}
-use borrow.Author.Tests.{ltb-true, ltb-false, le-leb}
+use lib.ListN.{length, take, drop, getD, set, length-take, length-drop, take-append-drop, drop-of-length-le}
+use lib.Seq.{sets, sets-eq, take-all, drop-cons, drop-drop, length-take-le}
+use lib.Dec.{leb, ltb}
+use borrow.Author.Tests.{leb-true, leb-false, ltb-true, ltb-false, le-leb}
+use Rattle.numbers.proofs.Copied.{part-count, pasted}
 use Rattle.packet.specs.Packet.{sumOf}
 use Rattle.host_judge.specs.declared.Judge.{Judge}
 use Rattle.host_judge.specs.declared.Reply.{Reply}
@@ -80,6 +81,38 @@ kept-more f i d (suc d′) b bs e = rw e refl
 kept-first : (f : List ℕ) (i d d′ b : ℕ) → d ≡ suc d′ → set f i b ≡ sets f i (take d (b ∷ []))
 kept-first f i d zero b e = rw e refl
 kept-first f i d (suc d′) b e = rw e refl
+
+-- as many as there are
+take-least : (n d : ℕ) (l : List ℕ) → n ≡ min (length l) d → take n l ≡ take d l
+take-least n d l e = by (leb d (length l)) refl
+  where
+    by : (t : Bool) → leb d (length l) ≡ t → take n l ≡ take d l
+    by true f = let k : n ≡ d = omega (arith, leb-true d (length l) f) in rw k refl
+    by false f =
+        let h : length l < d = leb-false d (length l) f in
+        take-all n l (omega arith) ∙ sym (take-all d l (omega arith))
+
+-- what is kept has room among the seventeen
+pub kept-room : (count end d n many : ℕ) → 4 ≤ count → count < end → end ≡ min d 21 → n ≡ min many (end - count) → count - 4 + n ≤ 17
+kept-room count end d n many h l e f =
+    let a : end ≤ 21 = omega arith in
+    let b : n ≤ end - count = omega arith in
+    omega (arith, a, b)
+
+-- the part that they are copied over is as long
+pub copy-room : (f more : List ℕ) (from n : ℕ) → from + n ≤ length f → length (take n more) ≤ length (take (from + n - from) (drop from f))
+copy-room f more from n h = rw (part-count from (from + n) f h, length-take) (omega arith)
+
+-- bytes copied to their place are kept there
+pub kept-copy : (f more new : List ℕ) (from n d : ℕ) → from + n ≤ length f → n ≡ min (length more) d
+    → new ≡ take (length (take n more)) (take n more) ++ drop (length (take n more)) (take (from + n - from) (drop from f))
+    → take from f ++ (new ++ drop (from + n - from) (drop from f)) ≡ sets f from (take d more)
+kept-copy f more new from n d h e c =
+    let l : length (take n more) ≡ n = length-take-le n more (omega arith) in
+    let w : from + length (take n more) ≤ length f = rw l h in
+    pasted from (from + n) f h (omega arith) (take n more) new (part-count from (from + n) f h ∙ omega arith) c
+    ∙ sym (sets-eq (take n more) f from w ∙ rw l refl)
+    ∙ ap (sets f from) (take-least n d more e)
 
 -- one byte is kept as growing keeps it
 kept-one : (y : Reply) (b : ℕ) → 4 ≤ y .count → cond (isKept y) (set (y .first) (y .count - 4) b) (y .first) ≡ keptOf y (b ∷ [])

@@ -1,3 +1,4 @@
+use native.Mathlib.Nat.{add-mod-mod}
 use borrow.Author.Needs.{needs}
 use Rattle.host_judge.proofs.taking.add.Statement.{statement}
 use Rattle.host_judge.proofs.taking.add.Tie as tie
@@ -29,7 +30,7 @@ add-y c = search needs
 
 -- src/taking.rt:100:1
 returns : tie.Need-returns
-returns c = ?
+returns c = rw (c .before .wrapping-add-u8 .ensures, c .before .before .sum .ensures, add-mod-mod, c .before .before .before .keep .ensures)
 
 pub add-spec : {M : Type 1} → statement M
 add-spec =
