@@ -285,3 +285,20 @@ module _ (j : Judge) (u : isUnanswered (j .judgement) ≡ true) where
         heard-to-verdict j (finished (withReply j (p .reply)) b) bytes (p .taken + 1)
         (rw (heard-last (withReply j (p .reply)) b (omega arith) l) at so)
         (last-decides (j .request) (p .reply) b)
+
+    -- the steps one after the other: up to the first length byte,
+    pub part-high : (a b : Part) → a ≡ beganPart (j .reply) bytes → b ≡ nextPart 1 bytes a → HeardPart 2 b
+    part-high a b e f = rw (f, e) (part-next 1 2 (beganPart (j .reply) bytes) part-began (omega arith) (omega arith) (omega arith) (inl (λ q. omega arith)))
+
+    -- up to the second,
+    pub part-low : (a b : Part) → HeardPart 2 a → b ≡ nextPart 2 bytes a
+        → (b .taken ≤ a .taken) ⊎ (permitted DataPacket (lengthIn (b .reply)) ≡ true) → HeardPart 3 b
+    part-low a b h e fine = rw e (part-next 2 3 a h (omega arith) (omega arith) (omega arith) (inr (rw e at fine)))
+
+    -- and up to ETX
+    pub part-rest : (a b d e : Part) → HeardPart 3 a → b ≡ nextPart 3 bytes a → d ≡ nextPart 4 bytes b → e ≡ runPart bytes d
+        → HeardPart (lengthIn (e .reply) + 4) e
+    part-rest a b d e h p q r =
+        let k : HeardPart 4 b = rw p (part-next 3 4 a h (omega arith) (omega arith) (omega arith) (inl (λ z. omega arith))) in
+        let l : HeardPart 4 d = rw q (part-next 4 4 b k (omega arith) (omega arith) (omega arith) (inl (λ z. omega arith))) in
+        rw r (part-run d l)
