@@ -162,8 +162,7 @@ module _ (j : Judge) (u : isUnanswered (j .judgement) ≡ true) where
         → (p .taken < length bytes) × (p .reply .count ≡ place) × (place < lengthIn (p .reply) + 4)
     next-is place p e =
         let a = neither-of (leb (length bytes) (p .taken)) (not (eqb (p .reply .count) place) || leb (lengthIn (p .reply) + 4) place) e in
-        let b = neither-of (not (eqb (p .reply .count) place)) (leb (lengthIn (p .reply) + 4) place) (a .1) in
-        (
+        let b = neither-of (not (eqb (p .reply .count) place)) (leb (lengthIn (p .reply) + 4) place) (a .1) in (
           leb-false (length bytes) (p .taken) (a .0),
           eqb-true (p .reply .count) place (turned-false (eqb (p .reply .count) place) (b .0)),
           leb-false (lengthIn (p .reply) + 4) place (b .1),

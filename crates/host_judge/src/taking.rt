@@ -45,17 +45,11 @@ fn begin_part(reply: Reply, bytes: &[u8]) -> Part
     ensures { λ r. ⌜ r ≡ beganPart reply (now (bytes .entry)) ⌝ }
 {
     if reply.count != 0 {
-        return Part {
-            reply,
-            taken: 0,
-        };
+        return Part { reply, taken: 0 };
     }
     let i = mark_place(bytes);
     if bytes.len() <= i {
-        return Part {
-            reply,
-            taken: i,
-        };
+        return Part { reply, taken: i };
     }
     Part {
         reply: with_count(reply, 1),
@@ -148,10 +142,7 @@ pub(crate) fn hear(judge: Judge, bytes: &[u8]) -> Hearing
 {
     let judgement = judge.judgement;
     if !is_unanswered(judgement) {
-        return Hearing {
-            judge,
-            count: 0,
-        };
+        return Hearing { judge, count: 0 };
     }
     let high = hear_next(begin_part(judge.reply, bytes), bytes, 1);
     let low = hear_next(high, bytes, 2);
