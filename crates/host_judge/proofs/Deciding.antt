@@ -118,7 +118,7 @@ module _ (r : Request) where
       by true false f = rw (f refl) refl
 
   -- and that is a verdict
-  judged-answers : (n res first : ℕ) → isUnanswered (judgedBy r n res first) ≡ false
+  pub judged-answers : (n res first : ℕ) → isUnanswered (judgedBy r n res first) ≡ false
   unfolding judgedBy
   judged-answers n res first = by (grants (dueFor r) (numberFor r) n res first) (denies (numberFor r) n res first)
     where

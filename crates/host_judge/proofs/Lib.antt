@@ -3,6 +3,7 @@ pub mod Deciding
 pub mod Exactly
 pub mod Keeping
 pub mod OneByte
+pub mod Parts
 pub mod Passed
 pub mod Runs
 pub mod There

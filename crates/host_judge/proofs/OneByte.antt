@@ -56,17 +56,9 @@ other-res Status number n res first e = simp (e, and-false)
 other-res (Data count) number n res first e = simp (e, and-false)
 other-res Nothing number n res first e = refl
 
--- a byte that is kept has a place among the seventeen
-pub kept-place : (y : Reply) → isKept y ≡ true → (4 ≤ y .count) × (y .count < 21)
-kept-place y e =
-    let b = both (leb 4 (y .count)) (ltb (y .count) (min (dataEnd y) 21)) e in
-    (leb-true 4 (y .count) (b .0), omega (arith, ltb-true (y .count) (min (dataEnd y) 21) (b .1)))
-
--- behind the seventeen none is kept
-pub none-kept : (y : Reply) → 21 ≤ y .count → isKept y ≡ false
-none-kept y h =
-    let m : min (dataEnd y) 21 ≤ y .count = omega arith in
-    simp (le-ltb _ _ m, and-false)
+-- before the data none is kept
+pub none-kept : (y : Reply) → y .count < 4 → isKept y ≡ false
+none-kept y h = simp (lt-leb 4 (y .count) h)
 
 -- a number is none below it
 pub unlike-below : (n k : ℕ) → k < n → eqb n k ≡ false
@@ -98,11 +90,6 @@ pub judged-tests : (r : Request) (n res first : ℕ) (due : Due) (number : ℕ) 
     ≡ cond g Passed (cond (eqb n 2 && (eqb res (number + 128) && not (eqb first 0x00))) (Refused first) WrongReply)
 unfolding judgedBy denies
 judged-tests r n res first due number g d e h = rw (h, d, e) (simp (lt-ltb (numberFor r) 128 (number-unmarked r)))
-
--- the judge behind ETX, field by field
-pub finished-fields : (j : Judge) (b n : ℕ) (v : Judgement) (y : Reply) → n ≡ lengthIn (j .reply) → y ≡ withCount (n + 5) (j .reply)
-    → v ≡ lastJudged j b → _≡_ {A = Judge} (record { request = j .request; judgement = v; reply = y }) (finished j b)
-finished-fields j b n v y e f g = rw (f, e, g) refl
 
 -- the byte where none of a reply came yet
 pub heard-first : (j : Judge) (b : ℕ) → j .reply .count ≡ 0 → heardByte j b ≡ begun j b

@@ -1,22 +1,23 @@
--- Bytes heard one after the other, and runs of them at once. Assumes nothing.
-use mathlib.Core.Bool.{Bool, true, false}
+-- Bytes heard one after the other, and those before ETX at once. Assumes nothing.
+use mathlib.Core.Bool.{Bool, true, false, cond}
 use mathlib.Core.List.{List, [], _∷_, _++_}
 use mathlib.Core.Logic.{inr}
 use mathlib.Core.Path.{_≡_, refl, sym, ap, _∙_}
-use Prim.Native.Nat.{ℕ, suc, _+_, _-_, _%_, _≤_, _<_, min}
+use Prim.Native.Nat.{ℕ, zero, suc, _+_, _-_, _%_, _≤_, _<_, min}
 use native.Mathlib.Nat.{mod-add-mod, add-zero}
 use native.Mathlib.Omega.{arith}
-use lib.ListN.{length, take, drop, getD, length-drop, take-append-drop, drop-of-length-le}
-use lib.Seq.{drop-cons, drop-drop, length-take-le}
+use lib.ListN.{length, take, drop, getD, set, length-take, length-drop, take-append-drop, drop-of-length-le}
+use lib.Seq.{sets, sets-eq, take-all, drop-cons, drop-drop, length-take-le}
 use lib.Dec.{leb, ltb}
-use borrow.Author.Tests.{ltb-false, leb-false}
+use borrow.Author.Tests.{leb-true, leb-false, ltb-true, ltb-false, le-leb}
+use Rattle.numbers.proofs.Copied.{part-count, pasted}
 use Rattle.packet.specs.Packet.{sumOf}
 use Rattle.host_judge.specs.declared.Judge.{Judge}
 use Rattle.host_judge.specs.declared.Reply.{Reply}
 use Rattle.host_judge.specs.Reply.{isUnanswered}
-use Rattle.host_judge.specs.Judge.{Heard, lengthIn, grown, heardByte, hearingOf}
-use Rattle.host_judge.specs.Runs.{runOf, runAdded, HeardBytes}
-use Rattle.host_judge.proofs.OneByte.{none-kept, unlike-below, heard-between}
+use Rattle.host_judge.specs.Judge.{Heard, lengthIn, dataEnd, isKept, grown, heardByte, hearingOf}
+use Rattle.host_judge.specs.Runs.{keptOf, runAdded, HeardBytes}
+use Rattle.host_judge.proofs.OneByte.{unlike-below, heard-between}
 
 -- what was heard, with so many bytes taken before
 abbrev pub takenBefore : ℕ → Heard → Heard
@@ -36,7 +37,7 @@ unfolding hearingOf
 byte-heard j b bs e = simp e
 
 -- the same judge and the same count
-same-heard : (j j′ : Judge) (n n′ : ℕ) → j ≡ j′ → n ≡ n′ → _≡_ {A = Heard} (record { judge = j; count = n }) (record { judge = j′; count = n′ })
+pub same-heard : (j j′ : Judge) (n n′ : ℕ) → j ≡ j′ → n ≡ n′ → _≡_ {A = Heard} (record { judge = j; count = n }) (record { judge = j′; count = n′ })
 same-heard j j′ n n′ e f = rw (e, f) refl
 
 -- a byte in front of bytes that are all taken
@@ -67,8 +68,67 @@ heard-append j (b ∷ xs) ys e = by (isUnanswered (j .judgement)) refl (heard-ap
     by true t ih = append-byte j b xs ys t (ih (omega (arith, e, ap (λ (h : Heard). h .count) (byte-heard j b xs t))))
     by false t ih = absurd (omega (arith, e, ap (λ (h : Heard). h .count) (decided-heard j (b ∷ xs) t)))
 
--- a byte that only counts for SUM
-counted-byte : (j : Judge) (b : ℕ) → 21 ≤ j .reply .count → j .reply .count < lengthIn (j .reply) + 4 → heardByte j b ≡ runAdded j (b ∷ [])
+-- the judge with this reply
+abbrev pub withReply : Judge → Reply → Judge
+withReply j y = record { request = j .request; judgement = j .judgement; reply = y }
+
+-- bytes kept from a place on: the first, and then those behind it
+kept-more : (f : List ℕ) (i d d′ b : ℕ) (bs : List ℕ) → d ≡ suc d′ → sets (sets f i (take d (b ∷ []))) (suc i) (take d′ bs) ≡ sets f i (take d (b ∷ bs))
+kept-more f i d zero b bs e = rw e refl
+kept-more f i d (suc d′) b bs e = rw e refl
+
+-- the first alone
+kept-first : (f : List ℕ) (i d d′ b : ℕ) → d ≡ suc d′ → set f i b ≡ sets f i (take d (b ∷ []))
+kept-first f i d zero b e = rw e refl
+kept-first f i d (suc d′) b e = rw e refl
+
+-- as many as there are
+take-least : (n d : ℕ) (l : List ℕ) → n ≡ min (length l) d → take n l ≡ take d l
+take-least n d l e = by (leb d (length l)) refl
+  where
+    by : (t : Bool) → leb d (length l) ≡ t → take n l ≡ take d l
+    by true f = let k : n ≡ d = omega (arith, leb-true d (length l) f) in rw k refl
+    by false f =
+        let h : length l < d = leb-false d (length l) f in
+        take-all n l (omega arith) ∙ sym (take-all d l (omega arith))
+
+-- what is kept has room among the seventeen
+pub kept-room : (count end d n many : ℕ) → 4 ≤ count → count < end → end ≡ min d 21 → n ≡ min many (end - count) → count - 4 + n ≤ 17
+kept-room count end d n many h l e f =
+    let a : end ≤ 21 = omega arith in
+    let b : n ≤ end - count = omega arith in
+    omega (arith, a, b)
+
+-- the part that they are copied over is as long
+pub copy-room : (f more : List ℕ) (from n : ℕ) → from + n ≤ length f → length (take n more) ≤ length (take (from + n - from) (drop from f))
+copy-room f more from n h = rw (part-count from (from + n) f h, length-take) (omega arith)
+
+-- bytes copied to their place are kept there
+pub kept-copy : (f more new : List ℕ) (from n d : ℕ) → from + n ≤ length f → n ≡ min (length more) d
+    → new ≡ take (length (take n more)) (take n more) ++ drop (length (take n more)) (take (from + n - from) (drop from f))
+    → take from f ++ (new ++ drop (from + n - from) (drop from f)) ≡ sets f from (take d more)
+kept-copy f more new from n d h e c =
+    let l : length (take n more) ≡ n = length-take-le n more (omega arith) in
+    let w : from + length (take n more) ≤ length f = rw l h in
+    pasted from (from + n) f h (omega arith) (take n more) new (part-count from (from + n) f h ∙ omega arith) c
+    ∙ sym (sets-eq (take n more) f from w ∙ rw l refl)
+    ∙ ap (sets f from) (take-least n d more e)
+
+-- one byte is kept as growing keeps it
+kept-one : (y : Reply) (b : ℕ) → 4 ≤ y .count → cond (isKept y) (set (y .first) (y .count - 4) b) (y .first) ≡ keptOf y (b ∷ [])
+kept-one y b h = by (ltb (y .count) (min (dataEnd y) 21)) refl
+  where
+    by : (t : Bool) → ltb (y .count) (min (dataEnd y) 21) ≡ t → cond (isKept y) (set (y .first) (y .count - 4) b) (y .first) ≡ keptOf y (b ∷ [])
+    by true e =
+        let d : min (dataEnd y) 21 - y .count ≡ suc (min (dataEnd y) 21 - (y .count + 1)) = omega (arith, ltb-true (y .count) (min (dataEnd y) 21) e) in
+        rw (le-leb 4 (y .count) h, e) (kept-first (y .first) (y .count - 4) _ _ b d)
+    by false e =
+        let d : min (dataEnd y) 21 - y .count ≡ 0 = omega (arith, ltb-false (y .count) (min (dataEnd y) 21) e) in
+        rw (le-leb 4 (y .count) h, e, d) refl
+
+-- a byte behind RES and before ETX
+counted-byte : (j : Judge) (b : ℕ) → 4 ≤ j .reply .count → j .reply .count < lengthIn (j .reply) + 4
+    → heardByte j b ≡ withReply j (runAdded (j .reply) (b ∷ []))
 unfolding grown sumOf
 counted-byte j b l h =
     let n : ℕ = j .reply .count in
@@ -78,45 +138,47 @@ counted-byte j b l h =
       unlike-below n 2 (omega arith),
       unlike-below n 3 (omega arith),
       unlike-below (n + 1) 3 (omega arith),
-      none-kept (j .reply) l,
+      kept-one (j .reply) b l,
       add-zero,
     )
 
 -- one byte, and then a run
-byte-and-run : (j : Judge) (b : ℕ) (bs : List ℕ) → runAdded (runAdded j (b ∷ [])) bs ≡ runAdded j (b ∷ bs)
+byte-and-run : (y : Reply) (b : ℕ) (bs : List ℕ) → 4 ≤ y .count → runAdded (runAdded y (b ∷ [])) bs ≡ runAdded y (b ∷ bs)
 unfolding sumOf
-byte-and-run j b bs =
-    let n : j .reply .count + 1 + length bs ≡ j .reply .count + suc (length bs) = omega arith in
-    let s : ((j .reply .sum + (b + 0)) % 256 + sumOf bs) % 256 ≡ (j .reply .sum + (b + sumOf bs)) % 256 =
-    mod-add-mod (j .reply .sum + (b + 0)) 256 (sumOf bs) ∙ ap (λ (k : ℕ). k % 256) (omega arith) in
-    simp (n, s)
+byte-and-run y b bs h = rw (n, s, by (ltb (y .count) (min (dataEnd y) 21)) refl) refl
+  where
+    n : y .count + 1 + length bs ≡ y .count + suc (length bs)
+    n = omega arith
+
+    s : ((y .sum + (b + 0)) % 256 + sumOf bs) % 256 ≡ (y .sum + (b + sumOf bs)) % 256
+    s = mod-add-mod (y .sum + (b + 0)) 256 (sumOf bs) ∙ ap (λ (k : ℕ). k % 256) (omega arith)
+
+    i : y .count + 1 - 4 ≡ suc (y .count - 4)
+    i = omega arith
+
+    by : (t : Bool) → ltb (y .count) (min (dataEnd y) 21) ≡ t → keptOf (runAdded y (b ∷ [])) bs ≡ keptOf y (b ∷ bs)
+    by true e = rw i (kept-more (y .first) (y .count - 4) (min (dataEnd y) 21 - y .count) (min (dataEnd y) 21 - (y .count + 1)) b bs
+        (omega (arith, ltb-true (y .count) (min (dataEnd y) 21) e)))
+    by false e =
+        let d : min (dataEnd y) 21 - y .count ≡ 0 = omega (arith, ltb-false (y .count) (min (dataEnd y) 21) e) in
+        let d′ : min (dataEnd y) 21 - (y .count + 1) ≡ 0 = omega (arith, ltb-false (y .count) (min (dataEnd y) 21) e) in
+        rw (d, d′) refl
 
 -- a run taken at once makes what its bytes make one after the other
-pub run-heard : (j : Judge) (bs : List ℕ) → isUnanswered (j .judgement) ≡ true → 0 < length bs → 21 ≤ j .reply .count
+pub run-heard : (j : Judge) (bs : List ℕ) → isUnanswered (j .judgement) ≡ true → 0 < length bs → 4 ≤ j .reply .count
     → j .reply .count + length bs ≤ lengthIn (j .reply) + 4
-    → hearingOf j bs ≡ record { judge = runAdded j bs; count = length bs }
+    → hearingOf j bs ≡ record { judge = withReply j (runAdded (j .reply) bs); count = length bs }
 unfolding hearingOf
 run-heard j [] u s l h = absurd (omega arith)
 run-heard j (b ∷ []) u s l h = byte-heard j b [] u ∙ same-heard _ _ _ _ (counted-byte j b l (omega arith)) refl
 run-heard j (b ∷ b′ ∷ bs) u s l h =
-    let k : hearingOf (heardByte j b) (b′ ∷ bs) ≡ record { judge = runAdded (runAdded j (b ∷ [])) (b′ ∷ bs); count = length (b′ ∷ bs) } =
+    let y : Reply = runAdded (j .reply) (b ∷ []) in
+    let k : hearingOf (heardByte j b) (b′ ∷ bs) ≡ record { judge = withReply j (runAdded y (b′ ∷ bs)); count = length (b′ ∷ bs) } =
     ap (λ (x : Judge). hearingOf x (b′ ∷ bs)) (counted-byte j b l (omega arith))
-    ∙ run-heard (runAdded j (b ∷ [])) (b′ ∷ bs) u (omega arith) (omega arith) (omega arith) in
+    ∙ run-heard (withReply j y) (b′ ∷ bs) u (omega arith) (omega arith) (omega arith) in
     byte-heard j b (b′ ∷ bs) u
-    ∙ same-heard _ _ _ _ (ap (λ (x : Heard). x .judge) k ∙ byte-and-run j b (b′ ∷ bs)) (omega (arith, ap (λ (x : Heard). x .count) k))
-
--- a run stands behind the bytes that are kept, and ends before ETX
-pub run-place : (y : Reply) (most n : ℕ) → n ≡ runOf y most → 0 < n → (21 ≤ y .count) × (y .count + n ≤ lengthIn y + 4)
-run-place y most n e h = by (ltb (y .count) 21) refl (leb (lengthIn y + 4) (y .count)) refl
-  where
-    by : (s : Bool) → ltb (y .count) 21 ≡ s → (t : Bool) → leb (lengthIn y + 4) (y .count) ≡ t
-        → (21 ≤ y .count) × (y .count + n ≤ lengthIn y + 4)
-    by true s t q = let z : n ≡ 0 = e ∙ simp s in absurd (omega arith)
-    by false s true q = let z : n ≡ 0 = e ∙ simp (s, q) in absurd (omega arith)
-    by false s false q =
-        let m : n ≡ min most (lengthIn y + 4 - y .count) = e ∙ simp (s, q) in
-        let k : y .count < lengthIn y + 4 = leb-false _ _ q in
-        (ltb-false _ _ s, omega arith)
+    ∙ same-heard _ _ _ _ (ap (λ (x : Heard). x .judge) k ∙ ap (withReply j) (byte-and-run (j .reply) b (b′ ∷ bs) l))
+    (omega (arith, ap (λ (x : Heard). x .count) k))
 
 -- a judge behind some bytes: hearing the rest from it is hearing all
 pub record HeardSo (j₀ : Judge) (bytes : List ℕ) (j : Judge) (taken : ℕ) : Type 0 where
@@ -154,18 +216,6 @@ one-heard j₀ j bytes taken so h u =
     let e : take 1 (drop taken bytes) ≡ getD bytes taken 0 ∷ [] = rw (drop-cons bytes taken 0 h) refl in
     more-heard j₀ j (heardByte j (getD bytes taken 0)) bytes taken 1 so (omega arith)
     (ap (hearingOf j) e ∙ byte-heard j (getD bytes taken 0) [] u)
-
--- a run more; its bytes are those from `taken` to `taken + n`
-pub run-taken : (j₀ j : Judge) (bytes : List ℕ) (taken n : ℕ) → HeardSo j₀ bytes j taken → isUnanswered (j .judgement) ≡ true
-    → n ≡ runOf (j .reply) (length bytes - taken) → n ≤ length bytes - taken → 0 < n
-    → HeardSo j₀ bytes (runAdded j (take (taken + n - taken) (drop taken bytes))) (taken + n)
-run-taken j₀ j bytes taken n so u e m h =
-    let k : taken + n - taken ≡ n = omega arith in
-    let l : length (take n (drop taken bytes)) ≡ n = length-take-le n (drop taken bytes) (rw length-drop m) in
-    let p = run-place (j .reply) (length bytes - taken) n e h in
-    rw k
-    (more-heard j₀ j (runAdded j (take n (drop taken bytes))) bytes taken n so (omega (arith, so .within))
-    (run-heard j (take n (drop taken bytes)) u (rw l h) (p .0) (rw l (p .1)) ∙ same-heard _ _ _ _ refl l))
 
 -- where the rest is not taken, all is heard
 module _ (j₀ j : Judge) (bytes : List ℕ) (taken : ℕ) (so : HeardSo j₀ bytes j taken) where

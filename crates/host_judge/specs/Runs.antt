@@ -1,35 +1,84 @@
--- Runs: bytes of a reply that only count for SUM are taken at once. That they make what one after the other makes is proofs/Runs, `run-heard`.
-use mathlib.Core.Bool.{_||_, cond}
-use mathlib.Core.List.{List}
+-- The steps in which bytes are taken: noise up to 81h, each of the next four bytes, then all before ETX at once. That they make what one byte after
+-- the other makes is proofs/Runs.
+use mathlib.Core.Bool.{Bool, _&&_, _||_, not, cond}
+use mathlib.Core.List.{List, [], _∷_}
 use mathlib.Core.Path.{_≡_}
-use Prim.Native.Nat.{ℕ, _+_, _-_, _%_, min}
-use lib.ListN.{length}
-use lib.Dec.{leb, ltb}
-use Rattle.packet.specs.Packet.{sumOf}
+use Prim.Native.Nat.{ℕ, suc, _+_, _-_, _%_, min}
+use lib.ListN.{length, take, drop, getD}
+use lib.Seq.{sets}
+use lib.Dec.{leb, ltb, eqb}
+use Rattle.packet.specs.declared.Kind.the-variants.{Data as DataPacket}
+use Rattle.packet.specs.Packet.{startOf, sumOf}
+use Rattle.host_request.specs.declared.Request.{Request}
+use Rattle.host_judge.specs.declared.Judgement.{Judgement}
+use Rattle.host_judge.specs.declared.Judgement.the-variants.{WrongReply}
 use Rattle.host_judge.specs.declared.Reply.{Reply}
 use Rattle.host_judge.specs.declared.Judge.{Judge}
 use Rattle.host_judge.specs.declared.taking.Hearing.{Hearing}
-use Rattle.host_judge.specs.Judge.{lengthIn, hearingOf}
+use Rattle.host_judge.specs.declared.taking.Part.{Part}
+use Rattle.host_judge.specs.Reply.{judgedBy}
+use Rattle.host_judge.specs.Judge.{lengthIn, dataEnd, withCount, grown, hearingOf}
 
--- how many of the next bytes only count for SUM, of at most so many: those behind the seventeen that are kept, and SUM itself
-abbrev pub runOf : Reply → ℕ → ℕ
-runOf y most = cond (ltb (y .count) 21 || leb (lengthIn y + 4) (y .count)) 0 (min most (lengthIn y + 4 - y .count))
+-- where the first 81h stands, or behind the bytes where there is none
+unfoldable pub markPlace : List ℕ → ℕ
+markPlace [] = 0
+markPlace (b ∷ bs) = cond (eqb b (startOf DataPacket)) 0 (suc (markPlace bs))
 
-abbrev pub runAdded : Judge → List ℕ → Judge
-runAdded j bs =
+-- what came before or with 81h
+abbrev pub beganPart : Reply → List ℕ → Part
+beganPart y bytes =
+    cond (eqb (y .count) 0)
+    (cond (leb (length bytes) (markPlace bytes))
+    (record { reply = y; taken = markPlace bytes })
+    (record { reply = withCount 1 y; taken = markPlace bytes + 1 }))
+    (record { reply = y; taken = 0 })
+
+-- no byte with this place is next: there is none, it has another place, or it is ETX
+abbrev pub notNext : ℕ → List ℕ → Part → Bool
+notNext place bytes p = leb (length bytes) (p .taken) || (not (eqb (p .reply .count) place) || leb (lengthIn (p .reply) + 4) place)
+
+-- the byte with this place, if it is next
+unfoldable pub nextPart : ℕ → List ℕ → Part → Part
+nextPart place bytes p =
+    cond (notNext place bytes p) p (record { reply = grown (p .reply) (getD bytes (p .taken) 0); taken = p .taken + 1 })
+
+-- the first seventeen data bytes, when some more bytes before ETX came
+abbrev pub keptOf : Reply → List ℕ → List ℕ
+keptOf y more = sets (y .first) (y .count - 4) (take (min (dataEnd y) 21 - y .count) more)
+
+-- the reply, when they came
+abbrev pub runAdded : Reply → List ℕ → Reply
+runAdded y more =
     record {
-      request = j .request;
-      judgement = j .judgement;
-      reply =
-          record {
-            count = j .reply .count + length bs;
-            high = j .reply .high;
-            low = j .reply .low;
-            res = j .reply .res;
-            sum = (j .reply .sum + sumOf bs) % 256;
-            first = j .reply .first;
-          };
+      count = y .count + length more;
+      high = y .high;
+      low = y .low;
+      res = y .res;
+      sum = (y .sum + sumOf more) % 256;
+      first = keptOf y more;
     }
+
+-- how many of the bytes stand before ETX
+abbrev pub runOf : List ℕ → Part → ℕ
+runOf bytes p = min (length bytes - p .taken) (lengthIn (p .reply) + 4 - p .reply .count)
+
+-- there are none, or RES did not come yet
+abbrev pub noRun : List ℕ → Part → Bool
+noRun bytes p = leb (length bytes) (p .taken) || (ltb (p .reply .count) 4 || leb (lengthIn (p .reply) + 4) (p .reply .count))
+
+-- all of them
+unfoldable pub runPart : List ℕ → Part → Part
+runPart bytes p =
+    cond (noRun bytes p) p
+    (record { reply = runAdded (p .reply) (take (runOf bytes p) (drop (p .taken) bytes)); taken = p .taken + runOf bytes p })
+
+-- what the whole reply says, b its last byte
+abbrev pub lastSaid : Request → Reply → ℕ → Judgement
+lastSaid r y b = cond (eqb b 0x03 && eqb (y .sum) 0) (judgedBy r (lengthIn y) (y .res) (getD (y .first) 0 0)) WrongReply
+
+-- the judge with this verdict and reply, behind so many bytes
+abbrev pub heardWith : Judge → Judgement → Reply → ℕ → Hearing
+heardWith j v y n = record { judge = record { request = j .request; judgement = v; reply = y }; count = n }
 
 -- what hearing bytes answers
 pub record HeardBytes (j : Judge) (bytes : List ℕ) (r : Hearing) : Type 0 where

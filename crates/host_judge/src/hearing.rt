@@ -1,16 +1,15 @@
-// A reply byte by byte: what the judge knows behind each.
+// What a reply's bytes say: one more of them, and all of them.
 ghost use mathlib.Core.Bool.{cond};
 ghost use mathlib.Core.Path.{_≡_};
 ghost use Prim.Native.Nat.{_≤_};
 ghost use Rattle.host_judge.specs.Reply.{isUnanswered, grants, judgedBy};
-ghost use Rattle.host_judge.specs.Judge.{lengthIn, dataEnd, withCount, isKept, grown, begun, advanced, finished, heardByte, placeIn};
+ghost use Rattle.host_judge.specs.Judge.{lengthIn, dataEnd, withCount, isKept, grown, placeIn};
+ghost use Rattle.host_judge.specs.Runs.{lastSaid};
 use crate::Due;
-use crate::Judge;
 use crate::Judgement;
 use crate::Reply;
 use crate::due_to;
 use host_request::Request;
-use packet::Kind;
 
 // What the length bytes say.
 pub(crate) fn length(reply: Reply) -> u32
@@ -49,7 +48,7 @@ pub(crate) fn is_unanswered(judgement: Judgement) -> bool
 }
 
 // A reply of so many bytes, all else as it is.
-fn with_count(reply: Reply, count: u32) -> Reply
+pub(crate) fn with_count(reply: Reply, count: u32) -> Reply
     ensures { λ r. ⌜ r ≡ withCount count reply ⌝ }
 {
     let mut y = reply;
@@ -72,58 +71,22 @@ fn pick(here: bool, byte: u8, old: u8) -> u8
     if here { byte } else { old }
 }
 
-// One byte more, of those that SUM counts: it goes where its place says.
-fn grow(reply: Reply, byte: u8) -> Reply
-    requires { ⌜ reply .count ≤ 65538 ⌝ }
+// One byte more, of those that SUM counts, at most the one behind RES: it goes where its place says.
+pub(crate) fn grow(reply: Reply, place: u32, byte: u8) -> Reply
+    requires { ⌜ (reply .count ≡ place) × (place ≤ 4) ⌝ }
     ensures { λ r. ⌜ r ≡ grown reply byte ⌝ }
 {
-    let at = reply.count;
     let mut first = reply.first;
-    if is_kept(reply) {
-        let i = at as usize - 4;
-        first[i] = byte;
+    if place == 4 && is_kept(reply) {
+        first[0] = byte;
     }
     Reply {
-        count: at + 1,
-        high: pick(at == 1, byte, reply.high),
-        low: pick(at == 2, byte, reply.low),
-        res: pick(at == 3, byte, reply.res),
+        count: place + 1,
+        high: pick(place == 1, byte, reply.high),
+        low: pick(place == 2, byte, reply.low),
+        res: pick(place == 3, byte, reply.res),
         sum: std::num::wrapping_add_u8(reply.sum, byte),
         first,
-    }
-}
-
-// Before 81h: every other byte is skipped.
-fn begin_with(judge: Judge, byte: u8) -> Judge
-    ensures { λ r. ⌜ r ≡ begun judge byte ⌝ }
-{
-    if byte != 0x81 {
-        return judge;
-    }
-    let mut j = judge;
-    let reply = judge.reply;
-    let y = with_count(reply, 1);
-    j.reply = y;
-    j
-}
-
-// Between 81h and ETX: a length outside its range decides, at its second byte.
-fn advance(judge: Judge, reply: Reply) -> Judge
-    ensures { λ r. ⌜ r ≡ advanced judge reply ⌝ }
-{
-    let request = judge.request;
-    let judgement = judge.judgement;
-    if reply.count == 3 && !packet::is_permitted(Kind::Data, length(reply) as usize) {
-        return Judge {
-            request,
-            judgement: Judgement::WrongReply,
-            reply,
-        };
-    }
-    Judge {
-        request,
-        judgement,
-        reply,
     }
 }
 
@@ -155,40 +118,12 @@ fn judge_contents(request: Request, n: usize, res: u8, first: u8) -> Judgement
     Judgement::WrongReply
 }
 
-// ETX: the reply is whole.
-fn finish(judge: Judge, byte: u8) -> Judge
-    ensures { λ r. ⌜ r ≡ finished judge byte ⌝ }
+// What the whole reply says, the byte its last one.
+pub(crate) fn judge_last(request: Request, reply: Reply, byte: u8) -> Judgement
+    ensures { λ r. ⌜ r ≡ lastSaid request reply byte ⌝ }
 {
-    let request = judge.request;
-    let reply = judge.reply;
-    let n = length(reply);
-    let y = with_count(reply, n + 5);
     if byte != 0x03 || reply.sum != 0 {
-        return Judge {
-            request,
-            judgement: Judgement::WrongReply,
-            reply: y,
-        };
+        return Judgement::WrongReply;
     }
-    let judgement = judge_contents(request, n as usize, reply.res, reply.first[0]);
-    Judge {
-        request,
-        judgement,
-        reply: y,
-    }
-}
-
-// One byte, where nothing is decided yet.
-pub(crate) fn hear_byte(judge: Judge, byte: u8) -> Judge
-    ensures { λ r. ⌜ r ≡ heardByte judge byte ⌝ }
-{
-    let reply = judge.reply;
-    let at = reply.count;
-    if at == 0 {
-        return begin_with(judge, byte);
-    }
-    if 3 <= at && length(reply) + 4 <= at {
-        return finish(judge, byte);
-    }
-    advance(judge, grow(reply, byte))
+    judge_contents(request, length(reply) as usize, reply.res, reply.first[0])
 }

@@ -1,13 +1,18 @@
-// Replies as they come: one byte after the other, and runs of bytes at once.
+// Replies as they come: byte by byte up to the one behind RES, the rest at once.
 ghost use mathlib.Core.Path.{_≡_};
-ghost use Prim.Native.Nat.{_+_, _≤_, _<_};
-ghost use lib.ListN.{length};
-ghost use Rattle.host_judge.specs.Runs.{runOf, runAdded, HeardBytes};
+ghost use Prim.Native.Nat.{ℕ, _+_, _≤_, _<_};
+ghost use lib.ListN.{length, getD};
+ghost use Rattle.host_judge.specs.Runs.{markPlace, beganPart, nextPart, keptOf, runAdded, runPart, heardWith, HeardBytes};
 use crate::Judge;
+use crate::Judgement;
 use crate::Reply;
-use crate::hearing::hear_byte;
+use crate::hearing::data_end;
+use crate::hearing::grow;
 use crate::hearing::is_unanswered;
+use crate::hearing::judge_last;
 use crate::hearing::length;
+use crate::hearing::with_count;
+use packet::Kind;
 
 // The judge behind some bytes, and how many of them were taken.
 pub(crate) struct Hearing {
@@ -15,58 +20,143 @@ pub(crate) struct Hearing {
     pub(crate) count: usize,
 }
 
-// How many of the next bytes only count for SUM: those behind the seventeen that are kept, and SUM itself.
-fn run(reply: Reply, most: usize) -> usize
-    ensures { λ r. ⌜ (r ≡ runOf reply most) × (r ≤ most) × (0 < r → reply .count + r ≤ 65539) ⌝ }
+// What came of a reply behind some bytes, and how many of them were taken.
+struct Part {
+    reply: Reply,
+    taken: usize,
+}
+
+// Where the first 81h stands, or behind the bytes where there is none.
+fn mark_place(bytes: &[u8]) -> usize
+    ensures { λ r. ⌜ (r ≡ markPlace (now (bytes .entry))) × (r ≤ length (now (bytes .entry))) ⌝ }
+{
+    let mut i = 0;
+    while i < bytes.len() {
+        if bytes[i] == 0x81 {
+            return i;
+        }
+        i += 1;
+    }
+    i
+}
+
+// Before 81h every other byte is skipped.
+fn begin_part(reply: Reply, bytes: &[u8]) -> Part
+    ensures { λ r. ⌜ r ≡ beganPart reply (now (bytes .entry)) ⌝ }
+{
+    if reply.count != 0 {
+        return Part { reply, taken: 0 };
+    }
+    let i = mark_place(bytes);
+    if bytes.len() <= i {
+        return Part { reply, taken: i };
+    }
+    Part {
+        reply: with_count(reply, 1),
+        taken: i + 1,
+    }
+}
+
+// The byte with this place in the reply, if it is the next one and not ETX.
+fn hear_next(part: Part, bytes: &[u8], place: u32) -> Part
+    requires { ⌜ (1 ≤ place) × (place ≤ 4) ⌝ }
+    ensures { λ r. ⌜ r ≡ nextPart place (now (bytes .entry)) part ⌝ }
+{
+    let reply = part.reply;
+    let taken = part.taken;
+    if bytes.len() <= taken || reply.count != place || length(reply) + 4 <= place {
+        return part;
+    }
+    Part {
+        reply: grow(reply, place, bytes[taken]),
+        taken: taken + 1,
+    }
+}
+
+// The first seventeen data bytes, when some more bytes came.
+fn keep(reply: Reply, more: &[u8]) -> [u8; 17]
+    requires { ⌜ 4 ≤ reply .count ⌝ }
+    ensures { λ r. ⌜ r ≡ keptOf reply (now (more .entry)) ⌝ }
 {
     let at = reply.count as usize;
-    let end = length(reply) as usize + 4;
-    if at < 21 || end <= at {
-        return 0;
+    let end = numbers::lower(data_end(reply), 21);
+    let mut first = reply.first;
+    if at < end {
+        let n = numbers::lower(more.len(), end - at);
+        let from = at - 4;
+        let to = from + n;
+        bytes::copy(&more[..n], &mut first[from..to]);
     }
-    numbers::lower(most, end - at)
+    first
 }
 
-// Those bytes at once.
-fn add(judge: Judge, part: &[u8]) -> Judge
-    requires { ⌜ judge .reply .count + length (now part) ≤ 65539 ⌝ }
-    ensures { λ r. ⌜ r ≡ runAdded judge (now (part .entry)) ⌝ }
+// Bytes before ETX at once.
+fn add(reply: Reply, more: &[u8]) -> Reply
+    requires { ⌜ (4 ≤ reply .count) × (reply .count + length (now more) ≤ 65539) ⌝ }
+    ensures { λ r. ⌜ r ≡ runAdded reply (now (more .entry)) ⌝ }
 {
-    let mut y = judge.reply;
-    y.sum = std::num::wrapping_add_u8(y.sum, packet::sum(part));
-    y.count += part.len() as u32;
-    let mut j = judge;
-    j.reply = y;
-    j
+    let first = keep(reply, more);
+    let mut y = reply;
+    y.first = first;
+    y.sum = std::num::wrapping_add_u8(y.sum, packet::sum(more));
+    y.count += more.len() as u32;
+    y
 }
 
-// One byte after the other, or a run of them at once, up to the one that decides.
+// All bytes before ETX, from the one behind RES on.
+fn hear_run(part: Part, bytes: &[u8]) -> Part
+    ensures { λ r. ⌜ r ≡ runPart (now (bytes .entry)) part ⌝ }
+{
+    let reply = part.reply;
+    let taken = part.taken;
+    let at = reply.count as usize;
+    let end = length(reply) as usize + 4;
+    if bytes.len() <= taken || at < 4 || end <= at {
+        return part;
+    }
+    let to = taken + numbers::lower(bytes.len() - taken, end - at);
+    Part {
+        reply: add(reply, &bytes[taken..to]),
+        taken: to,
+    }
+}
+
+// The judge with this verdict and reply.
+fn told(judge: Judge, judgement: Judgement, reply: Reply, count: usize) -> Hearing
+    ensures { λ r. ⌜ r ≡ heardWith judge judgement reply count ⌝ }
+{
+    let request = judge.request;
+    Hearing {
+        judge: Judge {
+            request,
+            judgement,
+            reply,
+        },
+        count,
+    }
+}
+
+// Bytes up to the one that decides: a length outside its range decides at its second byte, and ETX does.
 pub(crate) fn hear(judge: Judge, bytes: &[u8]) -> Hearing
     ensures { λ r. ⌜ HeardBytes judge (now (bytes .entry)) r ⌝ }
 {
-    let mut j = judge;
-    let mut taken = 0;
-    while taken < bytes.len() {
-        let judgement = j.judgement;
-        if !is_unanswered(judgement) {
-            return Hearing {
-                judge: j,
-                count: taken,
-            };
-        }
-        let reply = j.reply;
-        let n = run(reply, bytes.len() - taken);
-        if n == 0 {
-            j = hear_byte(j, bytes[taken]);
-            taken += 1;
-        } else {
-            let end = taken + n;
-            j = add(j, &bytes[taken..end]);
-            taken = end;
-        }
+    let judgement = judge.judgement;
+    if !is_unanswered(judgement) {
+        return Hearing { judge, count: 0 };
     }
-    Hearing {
-        judge: j,
-        count: taken,
+    let high = hear_next(begin_part(judge.reply, bytes), bytes, 1);
+    let low = hear_next(high, bytes, 2);
+    if high.taken < low.taken && !packet::is_permitted(Kind::Data, length(low.reply) as usize) {
+        return told(judge, Judgement::WrongReply, low.reply, low.taken);
     }
+    let status = hear_next(hear_next(low, bytes, 3), bytes, 4);
+    let part = hear_run(status, bytes);
+    let reply = part.reply;
+    let taken = part.taken;
+    if bytes.len() <= taken {
+        return told(judge, judgement, reply, taken);
+    }
+    let request = judge.request;
+    let said = judge_last(request, reply, bytes[taken]);
+    told(judge, said, with_count(reply, length(reply) + 5), taken + 1)
 }

@@ -1,30 +1,31 @@
--- `host_judge::hearing::grow` meets its contract. Each field is picked by the byte's place; what is kept has one of seventeen. Assumes nothing.
+-- `host_judge::hearing::grow` meets its contract. Each field is picked by the byte's place; only behind RES one is kept. Assumes nothing.
+use mathlib.Core.Path.{_≡_, sym, _∙_}
 use mathlib.Core.Logic.{⊎-elim}
-use mathlib.Core.Path.{sym, _∙_}
+use Prim.Native.Nat.{_-_}
 use native.Mathlib.Omega.{arith}
 use borrow.Author.Needs.{needs}
-use Rattle.host_judge.proofs.OneByte.{kept-place, grown-fields}
+use Rattle.host_judge.proofs.OneByte.{none-kept, grown-fields}
 use Rattle.host_judge.proofs.hearing.grow.Statement.{statement}
 use Rattle.host_judge.proofs.hearing.grow.Tie as tie
 
-sub-i : tie.Need-sub-i
-sub-i c = kept-place (c .before .before .before .args .reply) (sym (c .before .is-kept .ensures) ∙ c .if1 .taken) .0
-
-array-write-first : tie.Need-array-write-first
-array-write-first c =
-    let k = kept-place (c .before .before .before .args .reply) (sym (c .before .is-kept .ensures) ∙ c .if1 .taken) in
-    omega (arith, k .0, k .1)
-
 returns : tie.Need-returns
 returns c =
-    let a = c .before .before .before .before .before .before .before .args in
-    let k = sym (c .before .before .before .before .before .is-kept .ensures) in
-    grown-fields (a .reply) (a .byte) _ _ _ _ _
-    (c .before .before .before .pick .ensures)
-    (c .before .before .pick2 .ensures)
-    (c .before .pick3 .ensures)
+    let a = c .before .before .before .before .before .before .args in
+    let pre = c .before .before .before .before .before .before .pre in
+    rw (← pre .0)
+    (grown-fields (a .reply) (a .byte) _ _ _ _ _
+    (rw (pre .0) (c .before .before .before .pick .ensures))
+    (rw (pre .0) (c .before .before .pick2 .ensures))
+    (rw (pre .0) (c .before .pick3 .ensures))
     (c .wrapping-add-u8 .ensures)
-    (⊎-elim (λ w. rw (k ∙ w .0 .taken) (w .1)) (λ w. rw (k ∙ w .0 .left) (w .1)) (c .before .before .before .before .if1 .came))
+    (⊎-elim
+    (λ w.
+    let e : a .reply .count - 4 ≡ 0 = omega (arith, pre .0, w .0 .taken) in
+    rw (sym (w .1 .ensures) ∙ w .2 .taken, e) (w .3))
+    (λ w.
+    ⊎-elim (λ v. rw (sym (v .1 .ensures) ∙ v .2 .left) (w .1))
+    (λ v. rw (none-kept (a .reply) (omega (arith, pre .0, pre .1, v .left))) (w .1)) (w .0 .came))
+    (c .before .before .before .before .if1 .came)))
 
 pub grow-spec : {M : Type 1} → statement M
 grow-spec =
@@ -32,8 +33,6 @@ grow-spec =
     (tie.spec
     (λ c κs. search needs)
     (λ c. search needs)
-    sub-i
-    array-write-first
     (λ c. search needs)
     (λ c κs. search needs)
     (λ c κs. search needs)

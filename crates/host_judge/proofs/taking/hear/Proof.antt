@@ -1,100 +1,99 @@
--- `host_judge::taking::hear` meets its contract. The loop's invariant: hearing the rest from the judge so far is hearing all.
--- The measure is what is left of the bytes. Assumes nothing.
-use mathlib.Core.Path.{sym, _∙_}
-use Prim.Native.Nat.{_-_, _<_}
+-- `host_judge::taking::hear` meets its contract. Behind each step, hearing the rest is hearing all. Assumes nothing.
+use mathlib.Core.Path.{sym, ap, _∙_}
+use mathlib.Core.Logic.{⊎-elim, inl, inr}
 use native.Mathlib.Omega.{arith}
-use lib.ListN.{length, length-take}
-use borrow.Author.Needs.{needs}
 use borrow.Author.Tests.{not-true, not-false}
-use Rattle.host_judge.proofs.Runs.{HeardSo, none-heard, one-heard, run-taken, heard-to-end, heard-to-verdict}
+use borrow.Author.Needs.{needs}
+use Rattle.host_judge.proofs.Parts.{part-high, part-low, part-unfit, part-rest, part-ends, part-last}
+use Rattle.host_judge.proofs.Runs.{none-heard, heard-to-verdict}
+use Rattle.packet.specs.Packet.{permitted}
+use Rattle.packet.specs.declared.Kind.the-variants.{Data as DataPacket}
 use Rattle.host_judge.proofs.taking.hear.Statement.{statement}
 use Rattle.host_judge.proofs.taking.hear.Tie as tie
 
-abbrev Inv-loop : tie.InvT-loop
-Inv-loop bytes j₀ taken₀ j taken = HeardSo j₀ bytes j taken
-
-abbrev μ-loop : tie.MeasureT-loop
-μ-loop bytes j₀ taken₀ j taken = length bytes - taken
-
-loop-holds : tie.Need-loop-holds Inv-loop μ-loop
-loop-holds c = none-heard (c .before .args .judge) (c .before .args .bytes .now)
-
-returns : tie.Need-returns Inv-loop μ-loop
+returns : tie.Need-returns
 returns c =
-    let a = c .before .before .before .before .before .args in
-    let l = c .before .before .before .loop in
-    let u = c .before .is-unanswered in
-    heard-to-verdict (a .judge) (l .j) (a .bytes .now) (l .taken) (l .inv) (sym (u .ensures) ∙ not-true (u .result) (c .if1 .taken))
-
-loop-again : tie.Need-loop-again Inv-loop μ-loop
-loop-again c =
-    let a = c .before .before .before .before .before .before .before .before .before .before .args in
-    let l = c .before .before .before .before .before .before .before .before .loop in
-    let t = c .before .before .before .before .before .before .before .loop-test in
-    let u = c .before .before .before .before .before .before .is-unanswered in
-    let left = c .before .before .before .before .before .if1 .left in
-    rw (c .hear-byte .ensures)
-    (one-heard (a .judge) (l .j) (a .bytes .now) (l .taken) (l .inv) (t .taken) (sym (u .ensures) ∙ not-false (u .result) left))
-
-add-end : tie.Need-add-end Inv-loop μ-loop
-add-end c = omega (arith, c .before .run .ensures .1)
-
-sub-add : tie.Need-sub-add Inv-loop μ-loop
-sub-add c = omega arith
-
-part-add-start : tie.Need-part-add-start Inv-loop μ-loop
-part-add-start c = omega (arith, c .before .run .ensures .1)
-
-part-add-end : tie.Need-part-add-end Inv-loop μ-loop
-part-add-end c = omega (arith, c .before .run .ensures .1)
-
-add-requires : tie.Need-add-requires Inv-loop μ-loop
-add-requires c κs =
-    let run = c .before .before .run in
-    let n : 0 < run .result = omega arith in
-    rw length-take (omega (arith, run .ensures .2 n))
-
-loop-less-2 : tie.Need-loop-less-2 Inv-loop μ-loop
-loop-less-2 c = omega (arith, c .before .before .before .run .ensures .1)
-
-loop-again-2 : tie.Need-loop-again-2 Inv-loop μ-loop
-loop-again-2 c =
-    let a = c .before .before .before .before .before .before .before .before .before .before .args in
-    let l = c .before .before .before .before .before .before .before .before .loop in
-    let u = c .before .before .before .before .before .before .is-unanswered in
-    let unanswered = sym (u .ensures) ∙ not-false (u .result) (c .before .before .before .before .before .if1 .left) in
-    let run = c .before .before .before .run in
-    let n : 0 < run .result = omega arith in
-    rw (c .add .ensures)
-    (run-taken (a .judge) (l .j) (a .bytes .now) (l .taken) (run .result) (l .inv) unanswered (run .ensures .0) (run .ensures .1) n)
-
-returns-2 : tie.Need-returns-2 Inv-loop μ-loop
-returns-2 c =
     let a = c .before .before .before .args in
-    let l = c .before .loop in
-    heard-to-end (a .judge) (l .j) (a .bytes .now) (l .taken) (l .inv) (c .loop-test .left)
+    let u = c .before .is-unanswered in
+    heard-to-verdict (a .judge) (a .judge) (a .bytes .now) 0 (none-heard (a .judge) (a .bytes .now)) (sym (u .ensures) ∙ not-true (u .result) (c .if1 .taken))
+
+returns-2 : tie.Need-returns-2
+returns-2 c =
+    let j = c .before .before .before .before .before .before .before .before .before .before .before .before .before .args .judge in
+    let bytes = c .before .before .before .before .before .before .before .before .before .before .before .before .before .args .bytes .now in
+    let u = sym (c .before .before .before .before .before .before .before .before .before .before .before .is-unanswered .ensures) ∙ not-false (c .before .before .before .before .before .before .before .before .before .before .before .is-unanswered .result) (c .before .before .before .before .before .before .before .before .before .before .if1 .left) in
+    let high = part-high j u bytes (c .before .before .before .before .before .before .before .before .before .begin-part .result) (c .before .before .before .before .before .before .before .before .hear-next .result) (c .before .before .before .before .before .before .before .before .before .begin-part .ensures) (c .before .before .before .before .before .before .before .before .hear-next .ensures) in
+    let low = c .before .before .before .before .before .before .before .hear-next2 .ensures in
+    let bad = ap (permitted DataPacket) (sym (c .before .before .before .length .ensures .0)) ∙ sym (c .before .before .is-permitted .ensures) ∙ not-true (c .before .before .is-permitted .result) (c .before .if3 .taken) in
+    rw (c .told .ensures, low) (part-unfit j u bytes (c .before .before .before .before .before .before .before .before .hear-next .result) high (rw low at (c .before .before .before .before .if2 .taken)) (rw low at bad))
+
+returns-3 : tie.Need-returns-3
+returns-3 c =
+    let j = c .before .before .before .before .before .before .before .before .before .before .before .before .before .before .before .args .judge in
+    let bytes = c .before .before .before .before .before .before .before .before .before .before .before .before .before .before .before .args .bytes .now in
+    let u = sym (c .before .before .before .before .before .before .before .before .before .before .before .before .before .is-unanswered .ensures) ∙ not-false (c .before .before .before .before .before .before .before .before .before .before .before .before .before .is-unanswered .result) (c .before .before .before .before .before .before .before .before .before .before .before .before .if1 .left) in
+    let began = c .before .before .before .before .before .before .before .before .before .before .before .begin-part in
+    let first = c .before .before .before .before .before .before .before .before .before .before .hear-next in
+    let second = c .before .before .before .before .before .before .before .before .before .hear-next2 in
+    let third = c .before .before .before .before .before .hear-next3 in
+    let fourth = c .before .before .before .before .hear-next4 in
+    let run = c .before .before .before .hear-run in
+    let high = part-high j u bytes (began .result) (first .result) (began .ensures) (first .ensures) in
+    let low = part-low j u bytes (first .result) (second .result) high (second .ensures)
+    (⊎-elim
+    (λ w. inr (ap (permitted DataPacket) (sym (w .1 .ensures .0)) ∙ sym (w .2 .ensures) ∙ not-false (w .2 .result) (w .3 .left)))
+    (λ w. inl (w .left))
+    (c .before .before .before .before .before .before .if2 .came)) in
+    let rest = part-rest j u bytes (second .result) (third .result) (fourth .result) (run .result) low (third .ensures) (fourth .ensures) (run .ensures) in
+    rw (c .told2 .ensures) (part-ends j u bytes _ (run .result) rest (c .before .if4 .taken))
+
+add-told : tie.Need-add-told
+add-told c = omega (arith, c .before .before .before .before .if4 .left, c .before .before .before .before .before .before .before .before .before .before .before .before .before .before .before .before .before .before .good)
+
+returns-4 : tie.Need-returns-4
+returns-4 c =
+    let j = c .before .before .before .before .before .before .before .before .before .before .before .before .before .before .before .before .before .before .before .args .judge in
+    let bytes = c .before .before .before .before .before .before .before .before .before .before .before .before .before .before .before .before .before .before .before .args .bytes .now in
+    let u = sym (c .before .before .before .before .before .before .before .before .before .before .before .before .before .before .before .before .before .is-unanswered .ensures) ∙ not-false (c .before .before .before .before .before .before .before .before .before .before .before .before .before .before .before .before .before .is-unanswered .result) (c .before .before .before .before .before .before .before .before .before .before .before .before .before .before .before .before .if1 .left) in
+    let began = c .before .before .before .before .before .before .before .before .before .before .before .before .before .before .before .begin-part in
+    let first = c .before .before .before .before .before .before .before .before .before .before .before .before .before .before .hear-next in
+    let second = c .before .before .before .before .before .before .before .before .before .before .before .before .before .hear-next2 in
+    let third = c .before .before .before .before .before .before .before .before .before .hear-next3 in
+    let fourth = c .before .before .before .before .before .before .before .before .hear-next4 in
+    let run = c .before .before .before .before .before .before .before .hear-run in
+    let high = part-high j u bytes (began .result) (first .result) (began .ensures) (first .ensures) in
+    let low = part-low j u bytes (first .result) (second .result) high (second .ensures)
+    (⊎-elim
+    (λ w. inr (ap (permitted DataPacket) (sym (w .1 .ensures .0)) ∙ sym (w .2 .ensures) ∙ not-false (w .2 .result) (w .3 .left)))
+    (λ w. inl (w .left))
+    (c .before .before .before .before .before .before .before .before .before .before .if2 .came)) in
+    let rest = part-rest j u bytes (second .result) (third .result) (fourth .result) (run .result) low (third .ensures) (fourth .ensures) (run .ensures) in
+    rw (c .told3 .ensures, c .before .with-count .ensures, c .before .before .length2 .ensures .0, c .before .before .before .judge-last .ensures) (part-last j u bytes (run .result) rest (c .before .before .before .before .before .if4 .left))
 
 pub hear-spec : {M : Type 1} → statement M
 hear-spec =
     tie.close
     (tie.spec
-    Inv-loop
-    μ-loop
-    loop-holds
     (λ c κs. search needs)
     returns
-    (λ c. search needs)
+    (λ c κs. search needs)
+    (λ c κs. search needs)
+    (λ c κs. search needs)
     (λ c κs. search needs)
     (λ c. search needs)
     (λ c κs. search needs)
+    (λ c κs. search needs)
+    returns-2
+    (λ c κs. search needs)
+    (λ c κs. search needs)
+    (λ c κs. search needs)
+    (λ c κs. search needs)
+    returns-3
     (λ c. search needs)
+    (λ c κs. search needs)
+    (λ c κs. search needs)
     (λ c. search needs)
-    loop-again
-    add-end
-    sub-add
-    part-add-start
-    part-add-end
-    add-requires
-    loop-less-2
-    loop-again-2
-    returns-2)
+    (λ c κs. search needs)
+    add-told
+    (λ c κs. search needs)
+    returns-4)
