@@ -125,7 +125,9 @@ module _ (j : Judge) (u : isUnanswered (j .judgement) ≡ true) where
     part-began = by (eqb (j .reply .count) 0) refl (leb (length bytes) (markPlace bytes)) refl
       where
         skipped : j .reply .count ≡ 0 → markPlace bytes ≤ length bytes → HeardSo j bytes j (markPlace bytes)
-        skipped z h = rw (zero-add (markPlace bytes)) at (more-heard j j j bytes 0 (markPlace bytes) (none-heard j bytes) (omega arith) (noise-skipped z bytes))
+        skipped z h =
+            rw (zero-add (markPlace bytes)) at
+            (more-heard j j j bytes 0 (markPlace bytes) (none-heard j bytes) (omega arith) (noise-skipped z bytes))
 
         by : (none : Bool) → eqb (j .reply .count) 0 ≡ none → (over : Bool) → leb (length bytes) (markPlace bytes) ≡ over
             → HeardPart 1 (cond none (cond over (record { reply = j .reply; taken = markPlace bytes })
@@ -139,8 +141,9 @@ module _ (j : Judge) (u : isUnanswered (j .judgement) ≡ true) where
         by true e false f =
             let m : markPlace bytes < length bytes = leb-false (length bytes) (markPlace bytes) f in
             let z : j .reply .count ≡ 0 = eqb-true (j .reply .count) 0 e in
-            let w : heardByte j (getD bytes (markPlace bytes) 0) ≡ withReply j (withCount 1 (j .reply)) =
-            heard-first j (getD bytes (markPlace bytes) 0) z ∙ rw (eq-eqb (getD bytes (markPlace bytes) 0) (startOf DataPacket) (mark-there bytes m)) refl in
+            let b : ℕ = getD bytes (markPlace bytes) 0 in
+            let w : heardByte j b ≡ withReply j (withCount 1 (j .reply)) =
+            heard-first j b z ∙ rw (eq-eqb b (startOf DataPacket) (mark-there bytes m)) refl in
             record {
               so = rw w at (one-heard j j bytes (markPlace bytes) (skipped z (mark-within bytes)) m u);
               reached = λ h. omega arith;
@@ -276,7 +279,8 @@ module _ (j : Judge) (u : isUnanswered (j .judgement) ≡ true) where
 
     -- and ETX decides
     pub part-last : (p : Part) → HeardPart (lengthIn (p .reply) + 4) p → p .taken < length bytes
-        → HeardBytes j bytes (heardWith j (lastSaid (j .request) (p .reply) (getD bytes (p .taken) 0)) (withCount (lengthIn (p .reply) + 5) (p .reply)) (p .taken + 1))
+        → HeardBytes j bytes
+        (heardWith j (lastSaid (j .request) (p .reply) (getD bytes (p .taken) 0)) (withCount (lengthIn (p .reply) + 5) (p .reply)) (p .taken + 1))
     part-last p hp h =
         let b : ℕ = getD bytes (p .taken) 0 in
         let l : lengthIn (p .reply) + 4 ≤ p .reply .count = hp .reached h in
@@ -287,7 +291,8 @@ module _ (j : Judge) (u : isUnanswered (j .judgement) ≡ true) where
 
     -- the steps one after the other: up to the first length byte,
     pub part-high : (a b : Part) → a ≡ beganPart (j .reply) bytes → b ≡ nextPart 1 bytes a → HeardPart 2 b
-    part-high a b e f = rw (f, e) (part-next 1 2 (beganPart (j .reply) bytes) part-began (omega arith) (omega arith) (omega arith) (inl (λ q. omega arith)))
+    part-high a b e f =
+        rw (f, e) (part-next 1 2 (beganPart (j .reply) bytes) part-began (omega arith) (omega arith) (omega arith) (inl (λ q. omega arith)))
 
     -- up to the second,
     pub part-low : (a b : Part) → HeardPart 2 a → b ≡ nextPart 2 bytes a

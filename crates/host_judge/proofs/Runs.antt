@@ -73,7 +73,8 @@ abbrev pub withReply : Judge → Reply → Judge
 withReply j y = record { request = j .request; judgement = j .judgement; reply = y }
 
 -- bytes kept from a place on: the first, and then those behind it
-kept-more : (f : List ℕ) (i d d′ b : ℕ) (bs : List ℕ) → d ≡ suc d′ → sets (sets f i (take d (b ∷ []))) (suc i) (take d′ bs) ≡ sets f i (take d (b ∷ bs))
+kept-more : (f : List ℕ) (i d d′ b : ℕ) (bs : List ℕ) → d ≡ suc d′
+    → sets (sets f i (take d (b ∷ []))) (suc i) (take d′ bs) ≡ sets f i (take d (b ∷ bs))
 kept-more f i d zero b bs e = rw e refl
 kept-more f i d (suc d′) b bs e = rw e refl
 
@@ -120,7 +121,8 @@ kept-one y b h = by (ltb (y .count) (min (dataEnd y) 21)) refl
   where
     by : (t : Bool) → ltb (y .count) (min (dataEnd y) 21) ≡ t → cond (isKept y) (set (y .first) (y .count - 4) b) (y .first) ≡ keptOf y (b ∷ [])
     by true e =
-        let d : min (dataEnd y) 21 - y .count ≡ suc (min (dataEnd y) 21 - (y .count + 1)) = omega (arith, ltb-true (y .count) (min (dataEnd y) 21) e) in
+        let l : y .count < min (dataEnd y) 21 = ltb-true (y .count) (min (dataEnd y) 21) e in
+        let d : min (dataEnd y) 21 - y .count ≡ suc (min (dataEnd y) 21 - (y .count + 1)) = omega (arith, l) in
         rw (le-leb 4 (y .count) h, e) (kept-first (y .first) (y .count - 4) _ _ b d)
     by false e =
         let d : min (dataEnd y) 21 - y .count ≡ 0 = omega (arith, ltb-false (y .count) (min (dataEnd y) 21) e) in

@@ -14,7 +14,9 @@ returns c =
 
 returns-2 : tie.Need-returns-2
 returns-2 c =
-    simp (eq-eqb _ _ (c .before .before .before .before .if1 .left), not-false (eqb (c .before .before .before .before .before .args .t2 .sum) 0) (c .before .before .before .if2 .left), ← c .before .before .length .ensures .0) (c .judge-contents .ensures)
+    let n = c .before .before .length .ensures .0 in
+    let sum = not-false (eqb (c .before .before .before .before .before .args .t2 .sum) 0) (c .before .before .before .if2 .left) in
+    simp (eq-eqb _ _ (c .before .before .before .before .if1 .left), sum, ← n) (c .judge-contents .ensures)
 
 pub judge-last-spec : {M : Type 1} → statement M
 judge-last-spec =

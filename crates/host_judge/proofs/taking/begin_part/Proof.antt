@@ -8,10 +8,15 @@ returns : tie.Need-returns
 returns c = simp (ne-eqb _ _ (c .if1 .taken))
 
 returns-2 : tie.Need-returns-2
-returns-2 c = rw (c .before .mark-place .ensures .0) (simp (eq-eqb _ _ (c .before .before .if1 .left), le-leb _ _ (rw (c .before .mark-place .ensures .0) at (c .if2 .taken))))
+returns-2 c =
+    let e = c .before .mark-place .ensures .0 in
+    rw e (simp (eq-eqb _ _ (c .before .before .if1 .left), le-leb _ _ (rw e at (c .if2 .taken))))
 
 returns-3 : tie.Need-returns-3
-returns-3 c = rw (c .before .before .mark-place .ensures .0, c .with-count .ensures) (simp (eq-eqb _ _ (c .before .before .before .if1 .left), lt-leb _ _ (rw (c .before .before .mark-place .ensures .0) at (c .before .if2 .left))))
+returns-3 c =
+    let e = c .before .before .mark-place .ensures .0 in
+    rw (e, c .with-count .ensures)
+    (simp (eq-eqb _ _ (c .before .before .before .if1 .left), lt-leb _ _ (rw e at (c .before .if2 .left))))
 
 pub begin-part-spec : {M : Type 1} → statement M
 begin-part-spec =

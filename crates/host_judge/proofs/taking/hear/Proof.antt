@@ -15,60 +15,82 @@ returns : tie.Need-returns
 returns c =
     let a = c .before .before .before .args in
     let u = c .before .is-unanswered in
-    heard-to-verdict (a .judge) (a .judge) (a .bytes .now) 0 (none-heard (a .judge) (a .bytes .now)) (sym (u .ensures) ∙ not-true (u .result) (c .if1 .taken))
+    heard-to-verdict (a .judge) (a .judge) (a .bytes .now) 0 (none-heard (a .judge) (a .bytes .now))
+    (sym (u .ensures) ∙ not-true (u .result) (c .if1 .taken))
 
 returns-2 : tie.Need-returns-2
 returns-2 c =
-    let j = c .before .before .before .before .before .before .before .before .before .before .before .before .before .args .judge in
-    let bytes = c .before .before .before .before .before .before .before .before .before .before .before .before .before .args .bytes .now in
-    let u = sym (c .before .before .before .before .before .before .before .before .before .before .before .is-unanswered .ensures) ∙ not-false (c .before .before .before .before .before .before .before .before .before .before .before .is-unanswered .result) (c .before .before .before .before .before .before .before .before .before .before .if1 .left) in
-    let high = part-high j u bytes (c .before .before .before .before .before .before .before .before .before .begin-part .result) (c .before .before .before .before .before .before .before .before .hear-next .result) (c .before .before .before .before .before .before .before .before .before .begin-part .ensures) (c .before .before .before .before .before .before .before .before .hear-next .ensures) in
-    let low = c .before .before .before .before .before .before .before .hear-next2 .ensures in
-    let bad = ap (permitted DataPacket) (sym (c .before .before .before .length .ensures .0)) ∙ sym (c .before .before .is-permitted .ensures) ∙ not-true (c .before .before .is-permitted .result) (c .before .if3 .taken) in
-    rw (c .told .ensures, low) (part-unfit j u bytes (c .before .before .before .before .before .before .before .before .hear-next .result) high (rw low at (c .before .before .before .before .if2 .taken)) (rw low at bad))
+    let m = c .before .before .before .before .before .before .before in
+    let a = m .before .before .before .before .before .before .args in
+    let asked = m .before .before .before .before .is-unanswered in
+    let u = sym (asked .ensures) ∙ not-false (asked .result) (m .before .before .before .if1 .left) in
+    let began = m .before .before .begin-part in
+    let first = m .before .hear-next in
+    let second = m .hear-next2 in
+    let high = part-high (a .judge) u (a .bytes .now) (began .result) (first .result) (began .ensures) (first .ensures) in
+    let permits = c .before .before .is-permitted in
+    let bad =
+    ap (permitted DataPacket) (sym (c .before .before .before .length .ensures .0)) ∙ sym (permits .ensures)
+    ∙ not-true (permits .result) (c .before .if3 .taken) in
+    rw (c .told .ensures, second .ensures)
+    (part-unfit (a .judge) u (a .bytes .now) (first .result) high
+    (rw (second .ensures) at (c .before .before .before .before .if2 .taken)) (rw (second .ensures) at bad))
 
 returns-3 : tie.Need-returns-3
 returns-3 c =
-    let j = c .before .before .before .before .before .before .before .before .before .before .before .before .before .before .before .args .judge in
-    let bytes = c .before .before .before .before .before .before .before .before .before .before .before .before .before .before .before .args .bytes .now in
-    let u = sym (c .before .before .before .before .before .before .before .before .before .before .before .before .before .is-unanswered .ensures) ∙ not-false (c .before .before .before .before .before .before .before .before .before .before .before .before .before .is-unanswered .result) (c .before .before .before .before .before .before .before .before .before .before .before .before .if1 .left) in
-    let began = c .before .before .before .before .before .before .before .before .before .before .before .begin-part in
-    let first = c .before .before .before .before .before .before .before .before .before .before .hear-next in
-    let second = c .before .before .before .before .before .before .before .before .before .hear-next2 in
-    let third = c .before .before .before .before .before .hear-next3 in
-    let fourth = c .before .before .before .before .hear-next4 in
-    let run = c .before .before .before .hear-run in
-    let high = part-high j u bytes (began .result) (first .result) (began .ensures) (first .ensures) in
-    let low = part-low j u bytes (first .result) (second .result) high (second .ensures)
+    let k = c .before .before .before in
+    let m = k .before .before .before .before .before .before in
+    let a = m .before .before .before .before .before .before .args in
+    let asked = m .before .before .before .before .is-unanswered in
+    let u = sym (asked .ensures) ∙ not-false (asked .result) (m .before .before .before .if1 .left) in
+    let began = m .before .before .begin-part in
+    let first = m .before .hear-next in
+    let second = m .hear-next2 in
+    let high = part-high (a .judge) u (a .bytes .now) (began .result) (first .result) (began .ensures) (first .ensures) in
+    let low =
+    part-low (a .judge) u (a .bytes .now) (first .result) (second .result) high (second .ensures)
     (⊎-elim
     (λ w. inr (ap (permitted DataPacket) (sym (w .1 .ensures .0)) ∙ sym (w .2 .ensures) ∙ not-false (w .2 .result) (w .3 .left)))
     (λ w. inl (w .left))
-    (c .before .before .before .before .before .before .if2 .came)) in
-    let rest = part-rest j u bytes (second .result) (third .result) (fourth .result) (run .result) low (third .ensures) (fourth .ensures) (run .ensures) in
-    rw (c .told2 .ensures) (part-ends j u bytes _ (run .result) rest (c .before .if4 .taken))
+    (k .before .before .before .if2 .came)) in
+    let third = k .before .before .hear-next3 in
+    let fourth = k .before .hear-next4 in
+    let run = k .hear-run in
+    let rest =
+    part-rest (a .judge) u (a .bytes .now) (second .result) (third .result) (fourth .result) (run .result) low
+    (third .ensures) (fourth .ensures) (run .ensures) in
+    rw (c .told2 .ensures) (part-ends (a .judge) u (a .bytes .now) _ (run .result) rest (c .before .if4 .taken))
 
 add-told : tie.Need-add-told
-add-told c = omega (arith, c .before .before .before .before .if4 .left, c .before .before .before .before .before .before .before .before .before .before .before .before .before .before .before .before .before .before .good)
+add-told c =
+    let start = c .before .before .before .before .before .before .before .before .before .before .before .before .before .before .before .before .before .before in
+    omega (arith, c .before .before .before .before .if4 .left, start .good)
 
 returns-4 : tie.Need-returns-4
 returns-4 c =
-    let j = c .before .before .before .before .before .before .before .before .before .before .before .before .before .before .before .before .before .before .before .args .judge in
-    let bytes = c .before .before .before .before .before .before .before .before .before .before .before .before .before .before .before .before .before .before .before .args .bytes .now in
-    let u = sym (c .before .before .before .before .before .before .before .before .before .before .before .before .before .before .before .before .before .is-unanswered .ensures) ∙ not-false (c .before .before .before .before .before .before .before .before .before .before .before .before .before .before .before .before .before .is-unanswered .result) (c .before .before .before .before .before .before .before .before .before .before .before .before .before .before .before .before .if1 .left) in
-    let began = c .before .before .before .before .before .before .before .before .before .before .before .before .before .before .before .begin-part in
-    let first = c .before .before .before .before .before .before .before .before .before .before .before .before .before .before .hear-next in
-    let second = c .before .before .before .before .before .before .before .before .before .before .before .before .before .hear-next2 in
-    let third = c .before .before .before .before .before .before .before .before .before .hear-next3 in
-    let fourth = c .before .before .before .before .before .before .before .before .hear-next4 in
-    let run = c .before .before .before .before .before .before .before .hear-run in
-    let high = part-high j u bytes (began .result) (first .result) (began .ensures) (first .ensures) in
-    let low = part-low j u bytes (first .result) (second .result) high (second .ensures)
+    let k = c .before .before .before .before .before .before .before in
+    let m = k .before .before .before .before .before .before in
+    let a = m .before .before .before .before .before .before .args in
+    let asked = m .before .before .before .before .is-unanswered in
+    let u = sym (asked .ensures) ∙ not-false (asked .result) (m .before .before .before .if1 .left) in
+    let began = m .before .before .begin-part in
+    let first = m .before .hear-next in
+    let second = m .hear-next2 in
+    let high = part-high (a .judge) u (a .bytes .now) (began .result) (first .result) (began .ensures) (first .ensures) in
+    let low =
+    part-low (a .judge) u (a .bytes .now) (first .result) (second .result) high (second .ensures)
     (⊎-elim
     (λ w. inr (ap (permitted DataPacket) (sym (w .1 .ensures .0)) ∙ sym (w .2 .ensures) ∙ not-false (w .2 .result) (w .3 .left)))
     (λ w. inl (w .left))
-    (c .before .before .before .before .before .before .before .before .before .before .if2 .came)) in
-    let rest = part-rest j u bytes (second .result) (third .result) (fourth .result) (run .result) low (third .ensures) (fourth .ensures) (run .ensures) in
-    rw (c .told3 .ensures, c .before .with-count .ensures, c .before .before .length2 .ensures .0, c .before .before .before .judge-last .ensures) (part-last j u bytes (run .result) rest (c .before .before .before .before .before .if4 .left))
+    (k .before .before .before .if2 .came)) in
+    let third = k .before .before .hear-next3 in
+    let fourth = k .before .hear-next4 in
+    let run = k .hear-run in
+    let rest =
+    part-rest (a .judge) u (a .bytes .now) (second .result) (third .result) (fourth .result) (run .result) low
+    (third .ensures) (fourth .ensures) (run .ensures) in
+    rw (c .told3 .ensures, c .before .with-count .ensures, c .before .before .length2 .ensures .0, c .before .before .before .judge-last .ensures)
+    (part-last (a .judge) u (a .bytes .now) (run .result) rest (c .before .before .before .before .before .if4 .left))
 
 pub hear-spec : {M : Type 1} → statement M
 hear-spec =

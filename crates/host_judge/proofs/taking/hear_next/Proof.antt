@@ -19,13 +19,17 @@ grow-requires : tie.Need-grow-requires
 grow-requires c κs =
     let a = c .before .before .before .before .before .before .before .before .args in
     let other = c .before .before .before .if2 .left in
-    (eqb-true (a .part .reply .count) (a .place) (not-false (eqb (a .part .reply .count) (a .place)) other), c .before .before .before .before .before .before .before .before .pre .1)
+    let most = c .before .before .before .before .before .before .before .before .pre .1 in
+    (eqb-true (a .part .reply .count) (a .place) (not-false (eqb (a .part .reply .count) (a .place)) other), most)
 
 returns-2 : tie.Need-returns-2
 unfolding nextPart
 returns-2 c =
-    simp (lt-leb _ _ (c .before .before .before .before .before .before .if1 .left), c .before .before .before .before .if2 .left, ← c .before .before .before .length .ensures .0, c .before .before .if3 .left)
-    (rw (c .grow .ensures) refl)
+    let if3 = c .before .before .if3 .left in
+    let n = c .before .before .before .length .ensures .0 in
+    let if2 = c .before .before .before .before .if2 .left in
+    let if1 = lt-leb _ _ (c .before .before .before .before .before .before .if1 .left) in
+    simp (if1, if2, ← n, if3) (rw (c .grow .ensures) refl)
 
 pub hear-next-spec : {M : Type 1} → statement M
 hear-next-spec =

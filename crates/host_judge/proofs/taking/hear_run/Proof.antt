@@ -38,7 +38,10 @@ returns-2 c =
     let n = c .before .before .before .before .before .before .length .ensures .0 in
     let lower = c .before .before .lower in
     let k : a .part .taken + lower .result - a .part .taken ≡ lower .result = omega arith in
-    let e : noRun (a .bytes .now) (a .part) ≡ false = simp (lt-leb _ _ (c .before .before .before .before .before .if1 .left), c .before .before .before .before .if2 .left, ← n, c .before .before .before .if3 .left) in
+    let if3 = c .before .before .before .if3 .left in
+    let if2 = c .before .before .before .before .if2 .left in
+    let if1 = lt-leb _ _ (c .before .before .before .before .before .if1 .left) in
+    let e : noRun (a .bytes .now) (a .part) ≡ false = simp (if1, if2, ← n, if3) in
     let m : lower .result ≡ runOf (a .bytes .now) (a .part) = lower .ensures ∙ rw n refl in
     rw (e, c .add .ensures, k, m) refl
 

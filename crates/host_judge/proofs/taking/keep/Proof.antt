@@ -10,7 +10,9 @@ use Rattle.host_judge.proofs.taking.keep.Statement.{statement}
 use Rattle.host_judge.proofs.taking.keep.Tie as tie
 
 slice-aggregate-copy : tie.Need-slice-aggregate-copy
-slice-aggregate-copy c = sym (length-take-le (c .before .lower2 .result) (c .before .before .before .before .before .before .before .before .args .more .now) (omega (arith, c .before .lower2 .ensures)))
+slice-aggregate-copy c =
+    let more = c .before .before .before .before .before .before .before .before .args .more .now in
+    sym (length-take-le (c .before .lower2 .result) more (omega (arith, c .before .lower2 .ensures)))
 
 part-first-end : tie.Need-part-first-end
 part-first-end c =
@@ -37,7 +39,9 @@ returns c =
     let l = c .before .before .before .before .before .before .before .lower in
     let l2 = c .before .before .before .before .lower2 in
     let end = l .ensures ∙ ap (λ (x : ℕ). min x 21) (c .before .before .before .before .before .before .before .before .data-end .ensures .0) in
-    let k = kept-room (a .reply .count) (l .result) _ (l2 .result) _ (c .before .before .before .before .before .before .before .before .before .before .before .pre) (c .before .before .before .before .before .if1 .taken) (l .ensures) (l2 .ensures) in
+    let some = c .before .before .before .before .before .if1 .taken in
+    let behind = c .before .before .before .before .before .before .before .before .before .before .before .pre in
+    let k = kept-room (a .reply .count) (l .result) _ (l2 .result) _ behind some (l .ensures) (l2 .ensures) in
     rw (← end)
     (kept-copy (a .reply .first) (a .more .now) (c .before .copy .last .1 .0) (a .reply .count - 4) (l2 .result) (l .result - a .reply .count)
     (omega (arith, k, n)) (l2 .ensures) (c .before .copy .ensures .1))

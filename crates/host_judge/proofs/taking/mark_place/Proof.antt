@@ -23,12 +23,14 @@ loop-holds c = (omega arith, sym (zero-add (markPlace (c .args .bytes .now))))
 returns : tie.Need-returns Inv-loop μ-loop
 returns c =
     let l = c .before .before .before .loop in
-    (omega (arith, l .inv .1, mark-here (c .before .before .before .before .args .bytes .now) (l .i) (c .before .before .loop-test .taken) (c .if1 .taken)), l .inv .0)
+    let bytes = c .before .before .before .before .args .bytes .now in
+    (omega (arith, l .inv .1, mark-here bytes (l .i) (c .before .before .loop-test .taken) (c .if1 .taken)), l .inv .0)
 
 loop-again : tie.Need-loop-again Inv-loop μ-loop
 loop-again c =
     let l = c .before .before .before .loop in
-    (search needs, omega (arith, l .inv .1, mark-further (c .before .before .before .before .args .bytes .now) (l .i) (c .before .before .loop-test .taken) (c .if1 .left)))
+    let bytes = c .before .before .before .before .args .bytes .now in
+    (search needs, omega (arith, l .inv .1, mark-further bytes (l .i) (c .before .before .loop-test .taken) (c .if1 .left)))
 
 returns-2 : tie.Need-returns-2 Inv-loop μ-loop
 returns-2 c =
