@@ -350,6 +350,9 @@ impl Judges<'_> {
         }
         let [one, other] = said;
         self.pair.same("what the judge says", one, other)?;
+        if let (Some(one), Some(other)) = (self.tested.bytes(), self.model.bytes()) {
+            self.pair.same("the judge's bytes", one, other)?;
+        }
         match self.tested.is_guarded() && self.model.is_guarded() {
             true => Ok(()),
             false => Err("what is around the judge changed".to_string()),

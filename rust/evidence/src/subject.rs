@@ -38,7 +38,10 @@ pub struct Numbers {
 pub enum Judge {
     #[cfg(feature = "proved")]
     Proved(JudgeBytes),
-    Model(Option<Fault>, model::Judge),
+    /// The model's, kept as bytes and decoded at each call, as the library's has to be.
+    Model([u8; model::JUDGE_BYTES]),
+    /// One with a fault, which not all bytes show.
+    Faulty(Option<Fault>, model::Judge),
 }
 
 /// What a judge says when it is asked.
@@ -58,11 +61,13 @@ impl Judge {
         match self {
             #[cfg(feature = "proved")]
             Judge::Proved(judge) => judge.take(bytes),
-            Judge::Model(None, judge) => {
+            Judge::Model(kept) => {
+                let mut judge = model::judge_from(kept).expect("a judge's own bytes");
                 let taken = judge.take(bytes);
+                *kept = model::judge_bytes(&judge);
                 (judge.verdict().number(), taken)
             }
-            Judge::Model(fault, judge) => {
+            Judge::Faulty(fault, judge) => {
                 let taken = judge.take_with(*fault, bytes);
                 (judge.verdict().number(), taken)
             }
@@ -73,7 +78,16 @@ impl Judge {
         match self {
             #[cfg(feature = "proved")]
             Judge::Proved(judge) => judge.said(),
-            Judge::Model(fault, judge) => Said {
+            Judge::Model(kept) => {
+                let judge = model::judge_from(kept).expect("a judge's own bytes");
+                Said {
+                    verdict: judge.verdict().number(),
+                    kept: *judge.kept(),
+                    sci: judge.sci(),
+                    area: judge.area(),
+                }
+            }
+            Judge::Faulty(fault, judge) => Said {
                 verdict: judge.verdict().number(),
                 kept: *judge.kept(),
                 sci: judge.sci_with(*fault),
@@ -82,12 +96,22 @@ impl Judge {
         }
     }
 
+    /// The bytes in which it is kept, where it has any.
+    pub fn bytes(&self) -> Option<&[u8]> {
+        match self {
+            #[cfg(feature = "proved")]
+            Judge::Proved(judge) => Some(judge.lent()),
+            Judge::Model(kept) => Some(kept),
+            Judge::Faulty(..) => None,
+        }
+    }
+
     /// Whether what is around its bytes is as it was, where it has bytes.
     pub fn is_guarded(&self) -> bool {
         match self {
             #[cfg(feature = "proved")]
             Judge::Proved(judge) => judge.is_guarded(),
-            Judge::Model(..) => true,
+            Judge::Model(_) | Judge::Faulty(..) => true,
         }
     }
 }
@@ -296,20 +320,7 @@ impl Subject for Proved {
 
 /// The request that has these numbers, as the model has it.
 pub(crate) fn request_of(numbers: Numbers) -> Option<Request> {
-    let (sad, ead) = (numbers.first, numbers.second);
-    Some(match (numbers.request, numbers.first, numbers.second) {
-        (1, 0, 0) => Request::Inquiry,
-        (2, _, _) => Request::Erase { sad, ead },
-        (3, _, _) => Request::Write { sad, ead },
-        (4, _, _) => Request::Read { sad, ead },
-        (5, 0, 0) => Request::Authenticate,
-        (6, brt, 0) => Request::Baud(brt),
-        (7, 0, 0) => Request::Signature,
-        (8, number @ 0..=0xFF, 0) => Request::Area(number as u8),
-        (9, 0, 0) => Request::WriteData,
-        (10, left, 0) => Request::Next { left },
-        _ => return None,
-    })
+    Request::of_numbers(numbers.request, numbers.first, numbers.second)
 }
 
 /// The model, right or with one deliberate fault. It decodes profile and state at each call, as the library has to.
@@ -468,10 +479,9 @@ impl Subject for Model {
     #[inline]
     fn judge(&self, numbers: Numbers) -> Option<Judge> {
         let request = request_of(numbers)?;
-        let judge = match self.0 {
-            None => model::Judge::start(request),
-            fault => model::Judge::start_with(fault, request),
-        };
-        Some(Judge::Model(self.0, judge))
+        Some(match self.0 {
+            None => Judge::Model(model::judge_bytes(&model::Judge::start(request))),
+            fault => Judge::Faulty(fault, model::Judge::start_with(fault, request)),
+        })
     }
 }

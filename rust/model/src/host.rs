@@ -2,9 +2,11 @@
 //! judges what comes back for each of them, and plans a write.
 
 mod judge;
+mod kept;
 mod plan;
 
 pub use judge::{Judge, Taken, Verdict};
+pub use kept::{judge_bytes, judge_from, JUDGE_BYTES};
 pub use plan::{plan, plan_with, Plan, Unplanned};
 
 use crate::faults::{Fault, Faults, Right};
@@ -52,6 +54,41 @@ fn size(sad: u32, ead: u32) -> u64 {
 }
 
 impl Request {
+    /// The request of these numbers: its own, and the two that it may have; one
+    /// that it does not have is 0.
+    pub fn of_numbers(request: u32, first: u32, second: u32) -> Option<Request> {
+        let (sad, ead) = (first, second);
+        Some(match (request, first, second) {
+            (1, 0, 0) => Request::Inquiry,
+            (2, _, _) => Request::Erase { sad, ead },
+            (3, _, _) => Request::Write { sad, ead },
+            (4, _, _) => Request::Read { sad, ead },
+            (5, 0, 0) => Request::Authenticate,
+            (6, brt, 0) => Request::Baud(brt),
+            (7, 0, 0) => Request::Signature,
+            (8, number @ 0..=0xFF, 0) => Request::Area(number as u8),
+            (9, 0, 0) => Request::WriteData,
+            (10, left, 0) => Request::Next { left },
+            _ => return None,
+        })
+    }
+
+    /// The other way round.
+    pub fn numbers(self) -> (u32, u32, u32) {
+        match self {
+            Request::Inquiry => (1, 0, 0),
+            Request::Erase { sad, ead } => (2, sad, ead),
+            Request::Write { sad, ead } => (3, sad, ead),
+            Request::Read { sad, ead } => (4, sad, ead),
+            Request::Authenticate => (5, 0, 0),
+            Request::Baud(brt) => (6, brt, 0),
+            Request::Signature => (7, 0, 0),
+            Request::Area(number) => (8, u32::from(number), 0),
+            Request::WriteData => (9, 0, 0),
+            Request::Next { left } => (10, left, 0),
+        }
+    }
+
     /// COM, or RES where the packet is a data packet.
     fn code(self) -> u8 {
         match self {

@@ -22,8 +22,8 @@ mod replay;
 
 pub use device::{feed, feed_with, fits, reset, reset_with, start, start_with};
 pub use faults::Fault;
-pub use host::{build, build_with, plan, plan_with};
-pub use host::{Judge, Plan, Request, Taken, Unbuilt, Unplanned, Verdict};
+pub use host::{build, build_with, judge_bytes, judge_from, plan, plan_with};
+pub use host::{Judge, Plan, Request, Taken, Unbuilt, Unplanned, Verdict, JUDGE_BYTES};
 pub use layout::{profile_bytes, profile_from, state_bytes, state_from};
 pub use packet::payload;
 pub use profile::{acceptable, total};

@@ -57,16 +57,16 @@ enum Answer {
 /// Judges the first packet that comes after a request.
 #[derive(Clone, Copy, Debug, PartialEq, Eq)]
 pub struct Judge {
-    request: Request,
-    verdict: Verdict,
+    pub(super) request: Request,
+    pub(super) verdict: Verdict,
     /// How much of the packet has come, 81h included.
-    came: usize,
+    pub(super) came: usize,
     /// What the length bytes that have come say.
-    length: usize,
+    pub(super) length: usize,
     /// Of all that has come from the length bytes to SUM.
-    sum: u8,
-    res: u8,
-    kept: [u8; KEPT],
+    pub(super) sum: u8,
+    pub(super) res: u8,
+    pub(super) kept: [u8; KEPT],
 }
 
 impl Judge {
