@@ -10,7 +10,7 @@ use native.Mathlib.Omega.{arith}
 use lib.ListN.{length, take, drop, getD, length-drop, drop-of-length-le}
 use lib.Seq.{drop-cons, length-take-le}
 use lib.Dec.{leb, ltb, eqb}
-use borrow.Author.Tests.{leb-true, leb-false, ltb-true, ltb-false, eqb-true, eqb-false, eq-eqb, ne-eqb}
+use borrow.Author.Tests.{leb-true, leb-false, ltb-true, ltb-false, eqb-true, eqb-false, eq-eqb, ne-eqb, not-true, not-false}
 use Rattle.packet.specs.declared.Kind.the-variants.{Data as DataPacket}
 use Rattle.packet.specs.Packet.{startOf, permitted}
 use Rattle.host_request.specs.declared.Request.{Request}
@@ -21,7 +21,7 @@ use Rattle.host_judge.specs.declared.Judge.{Judge}
 use Rattle.host_judge.specs.declared.taking.Part.{Part}
 use Rattle.host_judge.specs.Reply.{isUnanswered, judgedBy}
 use Rattle.host_judge.specs.Judge.{Heard, lengthIn, withCount, grown, advanced, finished, heardByte, hearingOf}
-use Rattle.host_judge.specs.Runs.{markPlace, beganPart, notNext, nextPart, runAdded, runOf, noRun, runPart, lastSaid, heardWith, HeardBytes}
+use Rattle.host_judge.specs.Runs.{markPlace, beganPart, notNext, nextPart, runAdded, runOf, noRun, runPart, lastSaid, hearingWith, HeardBytes}
 use Rattle.host_judge.proofs.Deciding.{judged-answers}
 use Rattle.host_judge.proofs.OneByte.{and-false, unlike-below, heard-first, heard-between, heard-last}
 use Rattle.host_judge.proofs.Runs.{withReply, byte-heard, same-heard, run-heard, HeardSo, none-heard, more-heard, one-heard, heard-to-end, heard-to-verdict}
@@ -71,15 +71,6 @@ either-of false t e = inr e
 neither-of : (s t : Bool) → (s || t) ≡ false → (s ≡ false) × (t ≡ false)
 neither-of false t e = (refl, e)
 neither-of true t e = absurd (omega (arith, ap (λ (x : Bool). cond {A = ℕ} x 1 0) e))
-
--- what a test says that was turned round
-turned-true : (t : Bool) → not t ≡ true → t ≡ false
-turned-true false e = refl
-turned-true true e = absurd (omega (arith, ap (λ (x : Bool). cond {A = ℕ} x 1 0) e))
-
-turned-false : (t : Bool) → not t ≡ false → t ≡ true
-turned-false true e = refl
-turned-false false e = absurd (omega (arith, ap (λ (x : Bool). cond {A = ℕ} x 1 0) e))
 
 -- a byte more makes one more
 grown-count : (y : Reply) (b : ℕ) → grown y b .count ≡ y .count + 1
@@ -167,7 +158,7 @@ module _ (j : Judge) (u : isUnanswered (j .judgement) ≡ true) where
         let a = neither-of (leb (length bytes) (p .taken)) (not (eqb (p .reply .count) place) || leb (lengthIn (p .reply) + 4) place) e in
         let b = neither-of (not (eqb (p .reply .count) place)) (leb (lengthIn (p .reply) + 4) place) (a .1) in (
           leb-false (length bytes) (p .taken) (a .0),
-          eqb-true (p .reply .count) place (turned-false (eqb (p .reply .count) place) (b .0)),
+          eqb-true (p .reply .count) place (not-false (eqb (p .reply .count) place) (b .0)),
           leb-false (lengthIn (p .reply) + 4) place (b .1),
         )
 
@@ -177,7 +168,7 @@ module _ (j : Judge) (u : isUnanswered (j .judgement) ≡ true) where
         ⊎-elim (λ a. absurd (omega (arith, leb-true (length bytes) (p .taken) a)))
         (λ a.
         ⊎-elim
-        (λ b. omega (arith, eqb-false (p .reply .count) place (turned-true (eqb (p .reply .count) place) b), hp .reached h))
+        (λ b. omega (arith, eqb-false (p .reply .count) place (not-true (eqb (p .reply .count) place) b), hp .reached h))
         (λ b. omega (arith, leb-true (lengthIn (p .reply) + 4) place b, hp .reached h))
         (either-of (not (eqb (p .reply .count) place)) (leb (lengthIn (p .reply) + 4) place) a))
         (either-of (leb (length bytes) (p .taken)) (not (eqb (p .reply .count) place) || leb (lengthIn (p .reply) + 4) place) e)
@@ -216,7 +207,7 @@ module _ (j : Judge) (u : isUnanswered (j .judgement) ≡ true) where
     -- a length outside its range decides
     pub part-unfit : (p : Part) → HeardPart 2 p → p .taken < nextPart 2 bytes p .taken
         → permitted DataPacket (lengthIn (nextPart 2 bytes p .reply)) ≡ false
-        → HeardBytes j bytes (heardWith j WrongReply (nextPart 2 bytes p .reply) (nextPart 2 bytes p .taken))
+        → HeardBytes j bytes (hearingWith j WrongReply (nextPart 2 bytes p .reply) (nextPart 2 bytes p .taken))
     unfolding nextPart
     part-unfit p hp more bad = by (notNext 2 bytes p) refl more bad
       where
@@ -224,14 +215,14 @@ module _ (j : Judge) (u : isUnanswered (j .judgement) ≡ true) where
         r t = cond t p (record { reply = grown (p .reply) (getD bytes (p .taken) 0); taken = p .taken + 1 })
 
         by : (t : Bool) → notNext 2 bytes p ≡ t → p .taken < r t .taken → permitted DataPacket (lengthIn (r t .reply)) ≡ false
-            → HeardBytes j bytes (heardWith j WrongReply (r t .reply) (r t .taken))
+            → HeardBytes j bytes (hearingWith j WrongReply (r t .reply) (r t .taken))
         by true e more bad = absurd (omega arith)
         by false e more bad =
             let k = next-is 2 p e in
             let y : Reply = grown (p .reply) (getD bytes (p .taken) 0) in
             let c : y .count ≡ 3 = omega (arith, grown-count (p .reply) (getD bytes (p .taken) 0), k .1) in
-            let w : advanced (withReply j (p .reply)) y ≡ heardWith j WrongReply y 0 .judge = rw (eq-eqb (y .count) 3 c, bad) refl in
-            heard-to-verdict j (heardWith j WrongReply y 0 .judge) bytes (p .taken + 1)
+            let w : advanced (withReply j (p .reply)) y ≡ hearingWith j WrongReply y 0 .judge = rw (eq-eqb (y .count) 3 c, bad) refl in
+            heard-to-verdict j (hearingWith j WrongReply y 0 .judge) bytes (p .taken + 1)
             (rw w at (between p (hp .so) (k .0) 2 (omega arith) (k .1) (k .2))) refl
 
     -- all before ETX
@@ -274,13 +265,13 @@ module _ (j : Judge) (u : isUnanswered (j .judgement) ≡ true) where
 
     -- at the end of the bytes all is heard
     pub part-ends : (place : ℕ) (p : Part) → HeardPart place p → length bytes ≤ p .taken
-        → HeardBytes j bytes (heardWith j (j .judgement) (p .reply) (p .taken))
+        → HeardBytes j bytes (hearingWith j (j .judgement) (p .reply) (p .taken))
     part-ends place p hp h = heard-to-end j (withReply j (p .reply)) bytes (p .taken) (hp .so) h
 
     -- and ETX decides
     pub part-last : (p : Part) → HeardPart (lengthIn (p .reply) + 4) p → p .taken < length bytes
         → HeardBytes j bytes
-        (heardWith j (lastSaid (j .request) (p .reply) (getD bytes (p .taken) 0)) (withCount (lengthIn (p .reply) + 5) (p .reply)) (p .taken + 1))
+        (hearingWith j (lastSaid (j .request) (p .reply) (getD bytes (p .taken) 0)) (withCount (lengthIn (p .reply) + 5) (p .reply)) (p .taken + 1))
     part-last p hp h =
         let b : ℕ = getD bytes (p .taken) 0 in
         let l : lengthIn (p .reply) + 4 ≤ p .reply .count = hp .reached h in

@@ -77,8 +77,8 @@ abbrev pub lastSaid : Request → Reply → ℕ → Judgement
 lastSaid r y b = cond (eqb b 0x03 && eqb (y .sum) 0) (judgedBy r (lengthIn y) (y .res) (getD (y .first) 0 0)) WrongReply
 
 -- the judge with this verdict and reply, behind so many bytes
-abbrev pub heardWith : Judge → Judgement → Reply → ℕ → Hearing
-heardWith j v y n = record { judge = record { request = j .request; judgement = v; reply = y }; count = n }
+abbrev pub hearingWith : Judge → Judgement → Reply → ℕ → Hearing
+hearingWith j v y n = record { judge = record { request = j .request; judgement = v; reply = y }; count = n }
 
 -- what hearing bytes answers
 pub record HeardBytes (j : Judge) (bytes : List ℕ) (r : Hearing) : Type 0 where

@@ -2,7 +2,7 @@
 ghost use mathlib.Core.Path.{_≡_};
 ghost use Prim.Native.Nat.{ℕ, _+_, _≤_, _<_};
 ghost use lib.ListN.{length, getD};
-ghost use Rattle.host_judge.specs.Runs.{markPlace, beganPart, nextPart, keptOf, runAdded, runPart, heardWith, HeardBytes};
+ghost use Rattle.host_judge.specs.Runs.{markPlace, beganPart, nextPart, keptOf, runAdded, runPart, hearingWith, HeardBytes};
 use crate::Judge;
 use crate::Judgement;
 use crate::Reply;
@@ -123,7 +123,7 @@ fn hear_run(part: Part, bytes: &[u8]) -> Part
 
 // The judge with this verdict and reply.
 fn told(judge: Judge, judgement: Judgement, reply: Reply, count: usize) -> Hearing
-    ensures { λ r. ⌜ r ≡ heardWith judge judgement reply count ⌝ }
+    ensures { λ r. ⌜ r ≡ hearingWith judge judgement reply count ⌝ }
 {
     let request = judge.request;
     Hearing {

@@ -4,10 +4,10 @@ use mathlib.Core.Logic.{⊎-elim, inl, inr}
 use native.Mathlib.Omega.{arith}
 use borrow.Author.Tests.{not-true, not-false}
 use borrow.Author.Needs.{needs}
-use Rattle.host_judge.proofs.Parts.{part-high, part-low, part-unfit, part-rest, part-ends, part-last}
-use Rattle.host_judge.proofs.Runs.{none-heard, heard-to-verdict}
-use Rattle.packet.specs.Packet.{permitted}
 use Rattle.packet.specs.declared.Kind.the-variants.{Data as DataPacket}
+use Rattle.packet.specs.Packet.{permitted}
+use Rattle.host_judge.proofs.Runs.{none-heard, heard-to-verdict}
+use Rattle.host_judge.proofs.Parts.{part-high, part-low, part-unfit, part-rest, part-ends, part-last}
 use Rattle.host_judge.proofs.taking.hear.Statement.{statement}
 use Rattle.host_judge.proofs.taking.hear.Tie as tie
 
