@@ -5,12 +5,13 @@ mod common;
 use common::{pattern, root, words, Client, Folder, Serving, SHOW_FLASH};
 use nix::fcntl::{fcntl, flock, FcntlArg, FlockArg, OFlag};
 use nix::pty::openpty;
-use nix::sys::signal::{kill, Signal};
+use nix::sys::signal::{kill, signal, SigHandler, Signal};
 use nix::sys::termios::{cfgetospeed, cfmakeraw, tcgetattr, tcsetattr, BaudRate, SetArg};
 use nix::unistd::{pipe, ttyname, Pid};
 use std::fs::{self, File};
 use std::io::{Read, Write};
 use std::os::unix::io::{AsRawFd, FromRawFd};
+use std::os::unix::process::CommandExt;
 use std::path::{Path, PathBuf};
 use std::process::{Command, Output, Stdio};
 use std::time::{Duration, Instant};
@@ -627,7 +628,15 @@ fn a_session_that_is_stopped_says_so() {
         (Some("--json"), "\"stopped\""),
     ] {
         let mut nobody = Other::new();
-        let child = script(&folder, &nobody.port, &["firmware.bin", "--timeout", "60"])
+        let mut command = script(&folder, &nobody.port, &["firmware.bin", "--timeout", "60"]);
+        // Whoever runs the tests in the background may have them ignore it, and a child inherits that.
+        unsafe {
+            command.pre_exec(|| {
+                signal(Signal::SIGINT, SigHandler::SigDfl)?;
+                Ok(())
+            });
+        }
+        let child = command
             .args(more)
             .stdout(Stdio::piped())
             .stderr(Stdio::piped())
