@@ -20,8 +20,8 @@ use Rattle.host_judge.specs.declared.Reply.{Reply}
 use Rattle.host_judge.specs.declared.Judge.{Judge}
 use Rattle.host_judge.specs.declared.taking.Part.{Part}
 use Rattle.host_judge.specs.Reply.{isUnanswered, judgedBy}
-use Rattle.host_judge.specs.Judge.{Heard, lengthIn, withCount, grown, advanced, finished, heardByte, hearingOf}
-use Rattle.host_judge.specs.Runs.{markPlace, beganPart, notNext, nextPart, runAdded, runOf, noRun, runPart, lastSaid, hearingWith, HeardBytes}
+use Rattle.host_judge.specs.Judge.{Heard, lengthIn, withCount, grown, advanced, finished, heardByte, hearingOf, lastJudged}
+use Rattle.host_judge.specs.Runs.{markPlace, beganPart, notNext, nextPart, runAdded, runOf, noRun, runPart, hearingWith, HeardBytes}
 use Rattle.host_judge.proofs.Deciding.{judged-answers}
 use Rattle.host_judge.proofs.OneByte.{and-false, unlike-below, heard-first, heard-between, heard-last}
 use Rattle.host_judge.proofs.Runs.{withReply, byte-heard, same-heard, run-heard, HeardSo, none-heard, more-heard, one-heard, heard-to-end, heard-to-verdict}
@@ -78,7 +78,7 @@ unfolding grown
 grown-count y b = refl
 
 -- a whole reply gives a verdict
-last-decides : (r : Request) (y : Reply) (b : ℕ) → isUnanswered (lastSaid r y b) ≡ false
+last-decides : (r : Request) (y : Reply) (b : ℕ) → isUnanswered (lastJudged r y b) ≡ false
 last-decides r y b = by (eqb b 0x03 && eqb (y .sum) 0)
   where
     by : (t : Bool) → isUnanswered (cond t (judgedBy r (lengthIn y) (y .res) (getD (y .first) 0 0)) WrongReply) ≡ false
@@ -271,7 +271,7 @@ module _ (j : Judge) (u : isUnanswered (j .judgement) ≡ true) where
     -- and ETX decides
     pub part-last : (p : Part) → HeardPart (lengthIn (p .reply) + 4) p → p .taken < length bytes
         → HeardBytes j bytes
-        (hearingWith j (lastSaid (j .request) (p .reply) (getD bytes (p .taken) 0)) (withCount (lengthIn (p .reply) + 5) (p .reply)) (p .taken + 1))
+        (hearingWith j (lastJudged (j .request) (p .reply) (getD bytes (p .taken) 0)) (withCount (lengthIn (p .reply) + 5) (p .reply)) (p .taken + 1))
     part-last p hp h =
         let b : ℕ = getD bytes (p .taken) 0 in
         let l : lengthIn (p .reply) + 4 ≤ p .reply .count = hp .reached h in

@@ -180,7 +180,7 @@ module _ (r : Request) (q : List ℕ) (j : Judge) (t : Tracks r q j) (some : 1 �
             (t .keeps .first 0 (omega arith) ∙ data-there q 0 h ∙ sym (List·getD-append q (b ∷ []) 0 4 (omega arith)))
 
     -- so the verdict is the packet's
-    judged-last : lastJudged j b ≡ packetJudged r (q ++ b ∷ [])
+    judged-last : lastJudged (j .request) (j .reply) b ≡ packetJudged r (q ++ b ∷ [])
     unfolding packetJudged
     judged-last =
         let l = last-place last in

@@ -69,13 +69,13 @@ advanced j y =
     record { request = j .request; judgement = cond (eqb (y .count) 3 && not (permitted DataPacket (lengthIn y))) WrongReply (j .judgement); reply = y }
 
 -- what the whole reply says, b its last byte
-abbrev pub lastJudged : Judge → ℕ → Judgement
-lastJudged j b =
-    cond (eqb b 0x03 && eqb (j .reply .sum) 0) (judgedBy (j .request) (lengthIn (j .reply)) (j .reply .res) (getD (j .reply .first) 0 0)) WrongReply
+abbrev pub lastJudged : Request → Reply → ℕ → Judgement
+lastJudged r y b = cond (eqb b 0x03 && eqb (y .sum) 0) (judgedBy r (lengthIn y) (y .res) (getD (y .first) 0 0)) WrongReply
 
 -- ETX: the reply is whole
 abbrev pub finished : Judge → ℕ → Judge
-finished j b = record { request = j .request; judgement = lastJudged j b; reply = withCount (lengthIn (j .reply) + 5) (j .reply) }
+finished j b =
+    record { request = j .request; judgement = lastJudged (j .request) (j .reply) b; reply = withCount (lengthIn (j .reply) + 5) (j .reply) }
 
 -- one byte, where nothing is decided yet
 unfoldable pub heardByte : Judge → ℕ → Judge

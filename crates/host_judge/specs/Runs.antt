@@ -1,6 +1,6 @@
 -- The steps in which bytes are taken: noise up to 81h, each of the next four bytes, then all before ETX at once. That they make what one byte after
--- the other makes is proofs/Runs.
-use mathlib.Core.Bool.{Bool, _&&_, _||_, not, cond}
+-- the other makes is proofs/Parts and proofs/Runs.
+use mathlib.Core.Bool.{Bool, _||_, not, cond}
 use mathlib.Core.List.{List, [], _∷_}
 use mathlib.Core.Path.{_≡_}
 use Prim.Native.Nat.{ℕ, suc, _+_, _-_, _%_, min}
@@ -9,14 +9,11 @@ use lib.Seq.{sets}
 use lib.Dec.{leb, ltb, eqb}
 use Rattle.packet.specs.declared.Kind.the-variants.{Data as DataPacket}
 use Rattle.packet.specs.Packet.{startOf, sumOf}
-use Rattle.host_request.specs.declared.Request.{Request}
 use Rattle.host_judge.specs.declared.Judgement.{Judgement}
-use Rattle.host_judge.specs.declared.Judgement.the-variants.{WrongReply}
 use Rattle.host_judge.specs.declared.Reply.{Reply}
 use Rattle.host_judge.specs.declared.Judge.{Judge}
 use Rattle.host_judge.specs.declared.taking.Hearing.{Hearing}
 use Rattle.host_judge.specs.declared.taking.Part.{Part}
-use Rattle.host_judge.specs.Reply.{judgedBy}
 use Rattle.host_judge.specs.Judge.{lengthIn, dataEnd, withCount, grown, hearingOf}
 
 -- where the first 81h stands, or behind the bytes where there is none
@@ -71,10 +68,6 @@ unfoldable pub runPart : List ℕ → Part → Part
 runPart bytes p =
     cond (noRun bytes p) p
     (record { reply = runAdded (p .reply) (take (runOf bytes p) (drop (p .taken) bytes)); taken = p .taken + runOf bytes p })
-
--- what the whole reply says, b its last byte
-abbrev pub lastSaid : Request → Reply → ℕ → Judgement
-lastSaid r y b = cond (eqb b 0x03 && eqb (y .sum) 0) (judgedBy r (lengthIn y) (y .res) (getD (y .first) 0 0)) WrongReply
 
 -- the judge with this verdict and reply, behind so many bytes
 abbrev pub hearingWith : Judge → Judgement → Reply → ℕ → Hearing

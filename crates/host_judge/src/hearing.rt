@@ -3,8 +3,7 @@ ghost use mathlib.Core.Bool.{cond};
 ghost use mathlib.Core.Path.{_≡_};
 ghost use Prim.Native.Nat.{_≤_};
 ghost use Rattle.host_judge.specs.Reply.{isUnanswered, grants, judgedBy};
-ghost use Rattle.host_judge.specs.Judge.{lengthIn, dataEnd, withCount, isKept, grown, placeIn};
-ghost use Rattle.host_judge.specs.Runs.{lastSaid};
+ghost use Rattle.host_judge.specs.Judge.{lengthIn, dataEnd, withCount, isKept, grown, placeIn, lastJudged};
 use crate::Due;
 use crate::Judgement;
 use crate::Reply;
@@ -120,7 +119,7 @@ fn judge_contents(request: Request, n: usize, res: u8, first: u8) -> Judgement
 
 // What the whole reply says, the byte its last one.
 pub(crate) fn judge_last(request: Request, reply: Reply, byte: u8) -> Judgement
-    ensures { λ r. ⌜ r ≡ lastSaid request reply byte ⌝ }
+    ensures { λ r. ⌜ r ≡ lastJudged request reply byte ⌝ }
 {
     if byte != 0x03 || reply.sum != 0 {
         return Judgement::WrongReply;

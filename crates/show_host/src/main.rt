@@ -1,19 +1,12 @@
 // Requests and their packets, and plans of writes. Each call has a line: what was given, and what is answered.
-mod printing;
-
 use host_plan::Following;
 use host_plan::Plan;
 use host_plan::Planned;
 use host_plan::Sending;
+use host_plan::Unplanned;
 use host_request::Built;
 use host_request::Request;
-use printing::print;
-use printing::print_number;
-use printing::print_request;
-use printing::print_some;
-use printing::print_title;
-use printing::print_unbuilt;
-use printing::print_unplanned;
+use host_request::Unbuilt;
 
 // The total-erase code.
 const CODE: [u8; 16] = [
@@ -34,6 +27,95 @@ const CODE: [u8; 16] = [
     0xFF,
     0xFF,
 ];
+
+fn print(words: &[u8]) {
+    io::write_all(1, words);
+}
+
+fn print_title(words: &[u8]) {
+    print(b"== ");
+    print(words);
+    print(b"\n");
+}
+
+fn print_number(words: &[u8], n: usize) {
+    print(words);
+    io::print_decimal(1, n as u64);
+}
+
+fn print_byte(byte: u8) {
+    let pair = show_common::hex(byte);
+    print(&pair);
+}
+
+// Bytes in hex, with a space between them.
+fn print_bytes(bytes: &[u8]) {
+    for i in 0..bytes.len() {
+        if 0 < i {
+            print(b" ");
+        }
+        print_byte(bytes[i]);
+    }
+}
+
+// All of the bytes, or of many the first eight and the last two.
+fn print_some(bytes: &[u8]) {
+    let n = bytes.len();
+    if n == 0 {
+        print(b"no bytes");
+        return;
+    }
+    if n <= 24 {
+        print_bytes(bytes);
+        return;
+    }
+    let end = n - 2;
+    print_bytes(&bytes[..8]);
+    print(b" .. ");
+    print_bytes(&bytes[end..]);
+    print_number(b" (", n);
+    print(b" bytes)");
+}
+
+fn print_range(words: &[u8], sad: u32, ead: u32) {
+    print(words);
+    print_number(b" ", sad as usize);
+    print_number(b" to ", ead as usize);
+}
+
+fn print_request(request: Request) {
+    match request {
+        Request::Inquiry => print(b"inquiry"),
+        Request::Erase(sad, ead) => print_range(b"erase", sad, ead),
+        Request::Write(sad, ead) => print_range(b"write", sad, ead),
+        Request::Read(sad, ead) => print_range(b"read", sad, ead),
+        Request::Authenticate => print(b"authenticate"),
+        Request::Baud(brt) => print_number(b"baud ", brt as usize),
+        Request::Signature => print(b"signature"),
+        Request::Area(n) => print_number(b"area ", n as usize),
+        Request::WriteData => print(b"write data"),
+        Request::Next(left) => print_number(b"next, left ", left as usize),
+    }
+}
+
+fn print_unbuilt(why: Unbuilt) {
+    match why {
+        Unbuilt::WrongAmount => print(b"wrong amount"),
+        Unbuilt::NothingLeft => print(b"nothing left"),
+        Unbuilt::NoRoom => print(b"no room"),
+    }
+}
+
+fn print_unplanned(why: Unplanned) {
+    match why {
+        Unplanned::Reversed => print(b"reversed"),
+        Unplanned::NoUnit => print(b"no unit"),
+        Unplanned::LongUnit => print(b"long unit"),
+        Unplanned::StartUnaligned => print(b"start unaligned"),
+        Unplanned::EndUnaligned => print(b"end unaligned"),
+        Unplanned::WrongAmount => print(b"wrong amount"),
+    }
+}
 
 // Whether all bytes from a place on are the given one.
 fn is_all(bytes: &[u8], from: usize, value: u8) -> bool {

@@ -1,12 +1,10 @@
 //! Random requests and replies, built and judged by the library and the model.
 
-use indraveck_evidence::{exchanges, tested, Model, Pair};
-use proptest::test_runner::{Config, RngAlgorithm, TestCaseError, TestRng, TestRunner};
-use std::time::Instant;
+mod random;
 
-const EXCHANGES: u32 = 20_000;
+use indraveck_evidence::exchanges;
+use random::Cases;
 
-/// How often each effect comes up at least in that many exchanges. A test that stays among wrong replies would agree on nothing.
 const EXPECTED: &[(&str, u64)] = &[
     ("area kept", 1400),
     ("data handed on", 1_000_000),
@@ -25,49 +23,20 @@ const EXPECTED: &[(&str, u64)] = &[
     ("signature kept", 640),
 ];
 
-fn number(name: &str, default: u32) -> u32 {
-    match std::env::var(name) {
-        Ok(words) => words.parse().expect("a whole number"),
-        Err(_) => default,
-    }
-}
-
 /// EXCHANGES says how many, SEED which ones.
+const EXCHANGES: Cases = Cases {
+    name: "exchanges",
+    count: 20_000,
+    expected: EXPECTED,
+    seed: 0x2D,
+};
+
 #[test]
 fn the_library_builds_and_judges_as_the_model_does() {
-    let count = number("EXCHANGES", EXCHANGES);
-    assert!(count > 0, "agreement says nothing where nobody was asked");
-    let mut seed = [0x2D; 32];
-    seed[..4].copy_from_slice(&number("SEED", 0).to_be_bytes());
-    let config = Config {
-        cases: count,
-        max_shrink_iters: 20_000,
-        failure_persistence: None,
-        ..Config::default()
-    };
-    let rng = TestRng::from_seed(RngAlgorithm::ChaCha, &seed);
-    let mut runner = TestRunner::new_with_rng(config, rng);
-    let tested = tested();
-    let pair = Pair::new(&*tested, &Model(None));
-    let start = Instant::now();
-    let outcome = runner.run(&exchanges::exchanges(), |exchange| {
-        exchanges::play(&pair, &exchange).map_err(TestCaseError::fail)
-    });
-    if let Err(failure) = outcome {
-        panic!("{}", failure);
-    }
-    let effects = pair.effects.borrow();
-    println!(
-        "{} exchanges by {} beside the model in {:.1} s:\n{}",
-        count,
-        tested.name(),
-        start.elapsed().as_secs_f64(),
-        effects
+    EXCHANGES.compare(
+        0,
+        EXCHANGES.asked(),
+        &exchanges::exchanges(),
+        exchanges::play,
     );
-    let expected: Vec<(&str, u64)> = EXPECTED
-        .iter()
-        .map(|(effect, least)| (*effect, least * u64::from(count) / u64::from(EXCHANGES)))
-        .collect();
-    let missing = effects.missing(&expected);
-    assert!(missing.is_empty(), "{}", missing.join("\n"));
 }

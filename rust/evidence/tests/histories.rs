@@ -1,12 +1,10 @@
 //! Random histories on the library and the model.
 
-use indraveck_evidence::{histories, tested, Model, Pair};
-use proptest::test_runner::{Config, RngAlgorithm, TestCaseError, TestRng, TestRunner};
-use std::time::Instant;
+mod random;
 
-const HISTORIES: u32 = 20_000;
+use indraveck_evidence::histories;
+use random::Cases;
 
-/// How often each effect comes up at least in that many histories. A test that stays among refusals would agree on nothing.
 const EXPECTED: &[(&str, u64)] = &[
     ("area sent", 1500),
     ("authenticated", 2000),
@@ -83,58 +81,28 @@ const EXPECTED: &[(&str, u64)] = &[
     ("write packet stored", 6000),
 ];
 
-fn number(name: &str, default: u32) -> u32 {
-    match std::env::var(name) {
-        Ok(words) => words.parse().expect("a whole number"),
-        Err(_) => default,
-    }
-}
+/// HISTORIES says how many, SEED which ones.
+const HISTORIES: Cases = Cases {
+    name: "histories",
+    count: 20_000,
+    expected: EXPECTED,
+    seed: 0x5A,
+};
 
-/// HISTORIES says how many, SEED which ones. Two tests share them, so that they run side by side.
+/// Two tests, so that they run side by side.
 #[test]
 fn the_library_answers_as_the_model_does() {
-    compare(0, number("HISTORIES", HISTORIES) / 2);
+    let count = HISTORIES.asked() / 2;
+    HISTORIES.compare(0, count, &histories::histories(), histories::play);
 }
 
 #[test]
 fn and_so_it_does_on_as_many_others() {
-    let count = number("HISTORIES", HISTORIES);
-    compare(1, count - count / 2);
-}
-
-fn compare(part: u8, count: u32) {
-    let mut seed = [0x5A; 32];
-    seed[..4].copy_from_slice(&number("SEED", 0).to_be_bytes());
-    seed[4] ^= part;
-    let config = Config {
-        cases: count,
-        max_shrink_iters: 20_000,
-        failure_persistence: None,
-        ..Config::default()
-    };
-    let rng = TestRng::from_seed(RngAlgorithm::ChaCha, &seed);
-    let mut runner = TestRunner::new_with_rng(config, rng);
-    let tested = tested();
-    let pair = Pair::new(&*tested, &Model(None));
-    let start = Instant::now();
-    let outcome = runner.run(&histories::histories(), |history| {
-        histories::play(&pair, &history).map_err(TestCaseError::fail)
-    });
-    if let Err(failure) = outcome {
-        panic!("{}", failure);
-    }
-    let effects = pair.effects.borrow();
-    println!(
-        "{} histories of {} beside the model in {:.1} s:\n{}",
-        count,
-        tested.name(),
-        start.elapsed().as_secs_f64(),
-        effects
+    let count = HISTORIES.asked();
+    HISTORIES.compare(
+        1,
+        count - count / 2,
+        &histories::histories(),
+        histories::play,
     );
-    let expected: Vec<(&str, u64)> = EXPECTED
-        .iter()
-        .map(|(effect, least)| (*effect, least * u64::from(count) / u64::from(HISTORIES)))
-        .collect();
-    let missing = effects.missing(&expected);
-    assert!(missing.is_empty(), "{}", missing.join("\n"));
 }

@@ -1,12 +1,10 @@
 //! Random recordings, read, written and replayed by the library and the model.
 
-use indraveck_evidence::{recordings, tested, Model, Pair};
-use proptest::test_runner::{Config, RngAlgorithm, TestCaseError, TestRng, TestRunner};
-use std::time::Instant;
+mod random;
 
-const RECORDINGS: u32 = 4_000;
+use indraveck_evidence::recordings;
+use random::Cases;
 
-/// How often each effect comes up at least in that many recordings. A test that stays among refusals would agree on nothing.
 const EXPECTED: &[(&str, u64)] = &[
     ("device record read", 13_000),
     ("device record written", 3500),
@@ -34,48 +32,20 @@ const EXPECTED: &[(&str, u64)] = &[
     ("written record read back", 9000),
 ];
 
-fn number(name: &str, default: u32) -> u32 {
-    match std::env::var(name) {
-        Ok(words) => words.parse().expect("a whole number"),
-        Err(_) => default,
-    }
-}
-
 /// RECORDINGS says how many, SEED which ones.
+const RECORDINGS: Cases = Cases {
+    name: "recordings",
+    count: 4_000,
+    expected: EXPECTED,
+    seed: 0x3C,
+};
+
 #[test]
 fn the_library_reads_and_writes_as_the_model_does() {
-    let count = number("RECORDINGS", RECORDINGS);
-    let mut seed = [0x3C; 32];
-    seed[..4].copy_from_slice(&number("SEED", 0).to_be_bytes());
-    let config = Config {
-        cases: count,
-        max_shrink_iters: 20_000,
-        failure_persistence: None,
-        ..Config::default()
-    };
-    let rng = TestRng::from_seed(RngAlgorithm::ChaCha, &seed);
-    let mut runner = TestRunner::new_with_rng(config, rng);
-    let tested = tested();
-    let pair = Pair::new(&*tested, &Model(None));
-    let start = Instant::now();
-    let outcome = runner.run(&recordings::recordings(), |recording| {
-        recordings::play(&pair, &recording).map_err(TestCaseError::fail)
-    });
-    if let Err(failure) = outcome {
-        panic!("{}", failure);
-    }
-    let effects = pair.effects.borrow();
-    println!(
-        "{} recordings by {} beside the model in {:.1} s:\n{}",
-        count,
-        tested.name(),
-        start.elapsed().as_secs_f64(),
-        effects
+    RECORDINGS.compare(
+        0,
+        RECORDINGS.asked(),
+        &recordings::recordings(),
+        recordings::play,
     );
-    let expected: Vec<(&str, u64)> = EXPECTED
-        .iter()
-        .map(|(effect, least)| (*effect, least * u64::from(count) / u64::from(RECORDINGS)))
-        .collect();
-    let missing = effects.missing(&expected);
-    assert!(missing.is_empty(), "{}", missing.join("\n"));
 }

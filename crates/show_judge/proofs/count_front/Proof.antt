@@ -1,10 +1,10 @@
--- `show_judge::counting::count_front` is safe. The reply lies within the buffer. Assumes nothing.
+-- `show_judge::count_front` is safe. The reply lies within the buffer. Assumes nothing.
 use mathlib.Core.Path.{sym}
 use native.Mathlib.Omega.{arith}
 use lib.Seq.{length-take-le}
 use borrow.Author.Needs.{needs}
-use Rattle.show_judge.proofs.counting.count_front.Statement.{statement}
-use Rattle.show_judge.proofs.counting.count_front.Tie as tie
+use Rattle.show_judge.proofs.count_front.Statement.{statement}
+use Rattle.show_judge.proofs.count_front.Tie as tie
 
 slice-aggregate-count-reply : tie.Need-slice-aggregate-count-reply
 slice-aggregate-count-reply c = sym (length-take-le _ _ (omega arith))

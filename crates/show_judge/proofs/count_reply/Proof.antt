@@ -1,10 +1,10 @@
--- `show_judge::counting::count_reply` is safe and ends. The reply keeps its length, and the loop counts to it. Assumes nothing.
+-- `show_judge::count_reply` is safe and ends. The reply keeps its length, and the loop counts to it. Assumes nothing.
 use mathlib.Core.Path.{_≡_}
 use Prim.Native.Nat.{_-_}
 use lib.ListN.{length}
 use borrow.Author.Needs.{needs}
-use Rattle.show_judge.proofs.counting.count_reply.Statement.{statement}
-use Rattle.show_judge.proofs.counting.count_reply.Tie as tie
+use Rattle.show_judge.proofs.count_reply.Statement.{statement}
+use Rattle.show_judge.proofs.count_reply.Tie as tie
 
 abbrev Inv-loop : tie.InvT-loop
 Inv-loop name kind request reply₀ at₀ t7 at-end reply at = (length reply ≡ length reply₀) × (length t7 ≡ 1)
