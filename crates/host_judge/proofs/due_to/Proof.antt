@@ -9,6 +9,10 @@ returns-4 : tie.Need-returns-4
 returns-4 c =
     c .read-due .ensures ∙ ap readDue (c .before .span .ensures) ∙ sym (ap dueFor (c .before .before .before .request .given .1))
 
+-- an area's reply has the fields of one
+returns-8 : tie.Need-returns-8
+returns-8 c = sym (ap dueFor (c .enum-told7 .given .1))
+
 returns-10 : tie.Need-returns-10
 returns-10 c = c .read-due2 .ensures ∙ sym (ap dueFor (c .before .before .request2 .given .1))
 
@@ -37,6 +41,6 @@ due-to-spec =
     (λ c. search needs)
     (λ c. search needs)
     (λ c. search needs)
-    (λ c. search needs)
+    returns-8
     (λ c. search needs)
     returns-10)
