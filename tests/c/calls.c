@@ -38,22 +38,15 @@ static void on_record(uint32_t direction, const uint8_t *bytes, size_t length)
 /* A user area that is larger than one packet, all but its first 16 bytes in the window, and the least config area. */
 static void small_profile(uint8_t *profile)
 {
-    uint8_t *user = profile + INDRAVECK_PROFILE_AT_AREAS;
-    uint8_t *config = user + INDRAVECK_AREA_BYTES;
+    uint8_t *user, *config;
 
-    memset(profile, 0, INDRAVECK_PROFILE_BYTES);
-    profile[INDRAVECK_PROFILE_AT_NOA] = 2;
-    profile[INDRAVECK_PROFILE_AT_TYP] = 1;
+    two_areas(profile, &user, &config);
     profile[INDRAVECK_PROFILE_AT_BFV + 1] = 7;
-    put_four(profile + INDRAVECK_PROFILE_AT_SCI, 60000000);
-    put_four(profile + INDRAVECK_PROFILE_AT_RMB, 4000000);
     put_four(profile + INDRAVECK_PROFILE_AT_LOW, 16);
     put_four(profile + INDRAVECK_PROFILE_AT_HIGH, 2048);
-    user[INDRAVECK_AREA_AT_KOA] = INDRAVECK_KIND_USER;
     put_four(user + INDRAVECK_AREA_AT_EAD, 2047);
     put_four(user + INDRAVECK_AREA_AT_EAU, 16);
     put_four(user + INDRAVECK_AREA_AT_WAU, 8);
-    config[INDRAVECK_AREA_AT_KOA] = INDRAVECK_KIND_CONFIG;
     put_four(config + INDRAVECK_AREA_AT_SAD, 0x1000);
     put_four(config + INDRAVECK_AREA_AT_EAD, 0x100F);
 }

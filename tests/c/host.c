@@ -564,19 +564,13 @@ static void any_pointer(uint8_t *nowhere)
 
 static void bench_profile(uint8_t *profile)
 {
-    uint8_t *user = profile + INDRAVECK_PROFILE_AT_AREAS;
-    uint8_t *config = user + INDRAVECK_AREA_BYTES;
+    uint8_t *user, *config;
 
-    memset(profile, 0, INDRAVECK_PROFILE_BYTES);
-    profile[INDRAVECK_PROFILE_AT_NOA] = 2;
-    profile[INDRAVECK_PROFILE_AT_TYP] = 1;
+    two_areas(profile, &user, &config);
     profile[INDRAVECK_PROFILE_AT_BFV] = 1;
-    put_four(profile + INDRAVECK_PROFILE_AT_SCI, 60000000);
-    put_four(profile + INDRAVECK_PROFILE_AT_RMB, 4000000);
     put_four(user + INDRAVECK_AREA_AT_EAD, 0xFFFF);
     put_four(user + INDRAVECK_AREA_AT_EAU, 0x2000);
     put_four(user + INDRAVECK_AREA_AT_WAU, 0x80);
-    config[INDRAVECK_AREA_AT_KOA] = INDRAVECK_KIND_CONFIG;
     put_four(config + INDRAVECK_AREA_AT_SAD, 0x01000000);
     put_four(config + INDRAVECK_AREA_AT_EAD, 0x010000FF);
     put_four(config + INDRAVECK_AREA_AT_WAU, 0x10);

@@ -1,9 +1,8 @@
-// What a reply's bytes say: one more of them, and all of them.
-ghost use mathlib.Core.Bool.{cond};
+// What a reply says: its length and the places in it, and the whole of it to a request.
 ghost use mathlib.Core.Path.{_≡_};
 ghost use Prim.Native.Nat.{_≤_};
 ghost use Rattle.host_judge.specs.Reply.{isUnanswered, grants, judgedBy};
-ghost use Rattle.host_judge.specs.Judge.{lengthIn, dataEnd, withCount, isKept, grown, placeIn, lastJudged};
+ghost use Rattle.host_judge.specs.Judge.{lengthIn, dataEnd, withCount, placeIn, lastJudged};
 use crate::Due;
 use crate::Judgement;
 use crate::Reply;
@@ -53,40 +52,6 @@ pub(crate) fn with_count(reply: Reply, count: u32) -> Reply
     let mut y = reply;
     y.count = count;
     y
-}
-
-// Whether the next byte is one of the first seventeen of the data.
-fn is_kept(reply: Reply) -> bool
-    ensures { λ r. ⌜ r ≡ isKept reply ⌝ }
-{
-    let at = reply.count as usize;
-    4 <= at && at < numbers::lower(data_end(reply), 21)
-}
-
-// The byte where it belongs here, and the old one elsewhere.
-fn pick(here: bool, byte: u8, old: u8) -> u8
-    ensures { λ r. ⌜ r ≡ cond here byte old ⌝ }
-{
-    if here { byte } else { old }
-}
-
-// One byte more, of those that SUM counts, at most the one behind RES: it goes where its place says.
-pub(crate) fn grow(reply: Reply, place: u32, byte: u8) -> Reply
-    requires { ⌜ (reply .count ≡ place) × (place ≤ 4) ⌝ }
-    ensures { λ r. ⌜ r ≡ grown reply byte ⌝ }
-{
-    let mut first = reply.first;
-    if place == 4 && is_kept(reply) {
-        first[0] = byte;
-    }
-    Reply {
-        count: place + 1,
-        high: pick(place == 1, byte, reply.high),
-        low: pick(place == 2, byte, reply.low),
-        res: pick(place == 3, byte, reply.res),
-        sum: std::num::wrapping_add_u8(reply.sum, byte),
-        first,
-    }
 }
 
 // Whether a reply grants a request of this number, to which that is due.

@@ -1,13 +1,14 @@
 // Replies as they come: byte by byte up to the one behind RES, the rest at once.
+ghost use mathlib.Core.Bool.{cond};
 ghost use mathlib.Core.Path.{_≡_};
 ghost use Prim.Native.Nat.{ℕ, _+_, _≤_, _<_};
 ghost use lib.ListN.{length, getD};
+ghost use Rattle.host_judge.specs.Judge.{isKept, grown};
 ghost use Rattle.host_judge.specs.Runs.{markPlace, beganPart, nextPart, keptOf, runAdded, runPart, hearingWith, HeardBytes};
 use crate::Judge;
 use crate::Judgement;
 use crate::Reply;
 use crate::hearing::data_end;
-use crate::hearing::grow;
 use crate::hearing::is_unanswered;
 use crate::hearing::judge_last;
 use crate::hearing::length;
@@ -54,6 +55,40 @@ fn begin_part(reply: Reply, bytes: &[u8]) -> Part
     Part {
         reply: with_count(reply, 1),
         taken: i + 1,
+    }
+}
+
+// Whether the next byte is one of the first seventeen of the data.
+fn is_kept(reply: Reply) -> bool
+    ensures { λ r. ⌜ r ≡ isKept reply ⌝ }
+{
+    let at = reply.count as usize;
+    4 <= at && at < numbers::lower(data_end(reply), 21)
+}
+
+// The byte where it belongs here, and the old one elsewhere.
+fn pick(here: bool, byte: u8, old: u8) -> u8
+    ensures { λ r. ⌜ r ≡ cond here byte old ⌝ }
+{
+    if here { byte } else { old }
+}
+
+// One byte more, of those that SUM counts, at most the one behind RES: it goes where its place says.
+fn grow(reply: Reply, place: u32, byte: u8) -> Reply
+    requires { ⌜ (reply .count ≡ place) × (place ≤ 4) ⌝ }
+    ensures { λ r. ⌜ r ≡ grown reply byte ⌝ }
+{
+    let mut first = reply.first;
+    if place == 4 && is_kept(reply) {
+        first[0] = byte;
+    }
+    Reply {
+        count: place + 1,
+        high: pick(place == 1, byte, reply.high),
+        low: pick(place == 2, byte, reply.low),
+        res: pick(place == 3, byte, reply.res),
+        sum: std::num::wrapping_add_u8(reply.sum, byte),
+        first,
     }
 }
 

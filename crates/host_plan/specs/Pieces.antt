@@ -25,7 +25,7 @@ unfoldable pub AllPieces : ℕ → List Sending → Type 0
 AllPieces unit [] = Unit {0}
 AllPieces unit (s ∷ more) = Piece unit s × AllPieces unit more
 
--- the data that goes with requests, piecesJoined in their order
+-- the data that goes with requests, joined in their order
 unfoldable pub piecesJoined : List Sending → List ℕ → List ℕ
 piecesJoined [] bytes = []
 piecesJoined (s ∷ more) bytes = pieceOf s bytes ++ piecesJoined more bytes

@@ -1,6 +1,7 @@
 //! The host's end: requests built, and replies judged. The boundaries one by one, as in [`crate::systematic`], and random exchanges, as in
 //! [`crate::histories`].
 
+use crate::damage::{self, Damage};
 use crate::effects;
 use crate::guarded::Guarded;
 use crate::line::{hex, Pair};
@@ -761,7 +762,7 @@ pub struct Exchange {
     pub amount: u32,
     pub room: u32,
     pub back: Vec<Back>,
-    pub changes: Vec<Change>,
+    pub damages: Vec<Damage>,
     /// Lengths of what is received at a time.
     pub pieces: Vec<u32>,
     pub seed: u32,
@@ -783,18 +784,6 @@ pub enum Back {
     Length(u16),
 }
 
-#[derive(Clone, Copy, Debug)]
-pub enum Change {
-    /// The rest is missing.
-    Cut(u32),
-    /// One byte is another.
-    Byte { place: u32, by: u8 },
-    /// A byte is missing.
-    Lost(u32),
-    /// There is a byte too many.
-    Added { place: u32, byte: u8 },
-}
-
 pub fn exchanges() -> impl Strategy<Value = Exchange> {
     let back = prop_oneof![
         2 => any::<u32>().prop_map(Back::Noise),
@@ -804,27 +793,27 @@ pub fn exchanges() -> impl Strategy<Value = Exchange> {
         2 => any::<(u8, u32)>().prop_map(|(res, count)| Back::Data { res, count }),
         1 => any::<u16>().prop_map(Back::Length),
     ];
-    let change = prop_oneof![
-        2 => any::<u32>().prop_map(Change::Cut),
-        3 => any::<(u32, u8)>().prop_map(|(place, by)| Change::Byte { place, by }),
-        1 => any::<u32>().prop_map(Change::Lost),
-        1 => any::<(u32, u8)>().prop_map(|(place, byte)| Change::Added { place, byte }),
+    let damage = prop_oneof![
+        2 => damage::cut(),
+        3 => damage::another_byte(),
+        1 => damage::lost(),
+        1 => damage::added(),
     ];
-    let changes = prop_oneof![
+    let damages = prop_oneof![
         3 => Just(Vec::new()),
-        2 => vec(change, 1..3),
+        2 => vec(damage, 1..3),
     ];
     let numbers = any::<(u32, u32, u32, u32, u32)>();
     let pieces = vec(any::<u32>(), 1..6);
-    (numbers, vec(back, 0..4), changes, pieces, any::<u32>()).prop_map(
-        |((request, first, second, amount, room), back, changes, pieces, seed)| Exchange {
+    (numbers, vec(back, 0..4), damages, pieces, any::<u32>()).prop_map(
+        |((request, first, second, amount, room), back, damages, pieces, seed)| Exchange {
             request,
             first,
             second,
             amount,
             room,
             back,
-            changes,
+            damages,
             pieces,
             seed,
         },
@@ -912,31 +901,10 @@ impl Exchange {
                 }
             });
         }
-        for change in &self.changes {
-            change.apply(&mut line);
+        for damage in &self.damages {
+            damage.apply(&mut line);
         }
         line
-    }
-}
-
-impl Change {
-    fn apply(self, bytes: &mut Vec<u8>) {
-        let place = |number: u32| number as usize % bytes.len();
-        match self {
-            Change::Added { place, byte } => {
-                let place = place as usize % (bytes.len() + 1);
-                bytes.insert(place, byte);
-            }
-            _ if bytes.is_empty() => {}
-            Change::Cut(number) => bytes.truncate(place(number)),
-            Change::Lost(number) => {
-                bytes.remove(place(number));
-            }
-            Change::Byte { place: number, by } => {
-                let place = place(number);
-                bytes[place] ^= by.max(1);
-            }
-        }
     }
 }
 

@@ -2,9 +2,10 @@
 //!
 //! A [`Line`] lends both the same bytes, makes the same calls on both and compares everything that comes back. [`histories`] makes
 //! random calls, and [`systematic`] goes through the boundaries one by one. [`recordings`] does the same for recorded lines: random ones,
-//! and the boundaries of their records; [`exchanges`] for the host's end: requests built, and replies judged. [`session`] and [`errands`]
-//! are what the benchmarks measure.
+//! and the boundaries of their records; [`exchanges`] for the host's end: requests built, and replies judged. In both, bytes come as they were
+//! sent or with some [`damage`]. [`session`] and [`errands`] are what the benchmarks measure.
 
+pub mod damage;
 mod effects;
 pub mod errands;
 pub mod exchanges;

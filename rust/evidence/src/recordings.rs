@@ -1,6 +1,7 @@
 //! Recorded lines: records read, written and replayed. The boundaries one by one, as in [`crate::systematic`], and random recordings, as in
 //! [`crate::histories`].
 
+use crate::damage::{self, Damage};
 use crate::effects;
 use crate::guarded::Guarded;
 use crate::line::{hex, Pair};
@@ -611,16 +612,10 @@ pub enum Piece {
 
 #[derive(Clone, Copy, Debug)]
 pub enum Change {
-    /// The rest is missing.
-    Cut(u32),
-    /// One byte is another.
-    Byte { place: u32, by: u8 },
+    /// As bytes of any kind are damaged.
+    Bytes(Damage),
     /// A byte of a head is another, one that may well be good there.
     Head { record: u32, place: u32, value: u32 },
-    /// A byte is missing.
-    Lost(u32),
-    /// There is a byte too many.
-    Added { place: u32, byte: u8 },
     /// The same once more, right behind it.
     Twice,
 }
@@ -642,8 +637,8 @@ pub fn recordings() -> impl Strategy<Value = Recording> {
         1 => any::<(u8, u32)>().prop_map(|(direction, length)| Piece::Any { direction, length }),
     ];
     let change = prop_oneof![
-        any::<u32>().prop_map(Change::Cut),
-        any::<(u32, u8)>().prop_map(|(place, by)| Change::Byte { place, by }),
+        damage::cut().prop_map(Change::Bytes),
+        damage::another_byte().prop_map(Change::Bytes),
         any::<(u32, u32, u32)>().prop_map(|(record, place, value)| {
             Change::Head {
                 record,
@@ -651,8 +646,8 @@ pub fn recordings() -> impl Strategy<Value = Recording> {
                 value,
             }
         }),
-        any::<u32>().prop_map(Change::Lost),
-        any::<(u32, u8)>().prop_map(|(place, byte)| Change::Added { place, byte }),
+        damage::lost().prop_map(Change::Bytes),
+        damage::added().prop_map(Change::Bytes),
         Just(Change::Twice),
     ];
     let changes = prop_oneof![
@@ -773,22 +768,9 @@ impl Piece {
 
 impl Change {
     fn apply(self, bytes: &mut Vec<u8>, starts: &[usize]) {
-        let place = |number: u32| number as usize % bytes.len();
         match self {
+            Change::Bytes(damage) => damage.apply(bytes),
             Change::Twice => bytes.extend_from_within(..),
-            Change::Added { place, byte } => {
-                let place = place as usize % (bytes.len() + 1);
-                bytes.insert(place, byte);
-            }
-            _ if bytes.is_empty() => {}
-            Change::Cut(number) => bytes.truncate(place(number)),
-            Change::Lost(number) => {
-                bytes.remove(place(number));
-            }
-            Change::Byte { place: number, by } => {
-                let place = place(number);
-                bytes[place] ^= by.max(1);
-            }
             Change::Head {
                 record,
                 place,

@@ -22,7 +22,15 @@ place-requires c κs =
           (a .receive .now) (a .input .now) (pre) (c .before .lower .result) e,
     )
 
+returns : tie.Need-returns
+returns c =
+    let input = c .before .before .before .before .before .before .before .before .before .args .input .now in
+    record {
+      taken = c .before .before .before .before .lower .ensures ∙ ap (λ (k : ℕ). min k (length input)) (c .before .before .before .before .before .gain .ensures);
+      receive = c .before .before .place .ensures;
+    }
+
 pub gather-spec : {M : Type 1} → statement M
 gather-spec =
     tie.close (tie.spec (λ c. search needs) slice-aggregate-gain (λ c κs. search needs) (λ c κs. search needs)
-    place-requires (λ c. search needs) (λ c. search needs))
+    place-requires (λ c. search needs) returns)

@@ -186,6 +186,13 @@ fn hear(request: Request, bytes: &[u8]) {
     say!("{} <- {}: {said}", request_text(request), bytes_text(bytes));
 }
 
+/// Each reply as it is written in a document.
+fn hear_each(table: &[(Request, &str)]) {
+    for (request, bytes) in table {
+        hear(*request, &hex(bytes));
+    }
+}
+
 /// The same bytes in two parts.
 fn hear_in_two(request: Request, bytes: &[u8], at: usize) {
     let at = at.min(bytes.len());
@@ -217,9 +224,7 @@ fn lines() {
         (read(0, 0), "81 00 02 15 D0 19 03"),
         (read(1, 0), "81 00 01 15 EA 03"),
     ];
-    for (request, bytes) in table {
-        hear(request, &hex(bytes));
-    }
+    hear_each(&table);
 }
 
 fn noise_and_lengths() {
@@ -245,9 +250,7 @@ fn noise_and_lengths() {
         (read(0, 1), "81 00 02 15 00 E9 03"),
         (read(0, 1), "81 00 04 15 00 00 00 E7 03"),
     ];
-    for (request, bytes) in table {
-        hear(request, &hex(bytes));
-    }
+    hear_each(&table);
 }
 
 /// At every place, with a byte before the reply and one behind.

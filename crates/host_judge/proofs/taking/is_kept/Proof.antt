@@ -1,8 +1,8 @@
--- `host_judge::hearing::is_kept` meets its contract. Code and definition test the same. Assumes nothing.
+-- `host_judge::taking::is_kept` meets its contract. Code and definition test the same. Assumes nothing.
 use borrow.Author.Needs.{needs}
 use borrow.Author.Tests.{le-leb, lt-leb}
-use Rattle.host_judge.proofs.hearing.is_kept.Statement.{statement}
-use Rattle.host_judge.proofs.hearing.is_kept.Tie as tie
+use Rattle.host_judge.proofs.taking.is_kept.Statement.{statement}
+use Rattle.host_judge.proofs.taking.is_kept.Tie as tie
 
 returns : tie.Need-returns
 returns c = simp (le-leb _ _ (c .before .before .if1 .taken), c .lower .ensures, c .before .data-end .ensures .0)

@@ -1,12 +1,12 @@
--- `host_judge::hearing::grow` meets its contract. Each field is picked by the byte's place; only behind RES one is kept. Assumes nothing.
+-- `host_judge::taking::grow` meets its contract. Each field is picked by the byte's place; only behind RES one is kept. Assumes nothing.
 use mathlib.Core.Path.{_≡_, sym, _∙_}
 use mathlib.Core.Logic.{⊎-elim}
 use Prim.Native.Nat.{_-_}
 use native.Mathlib.Omega.{arith}
 use borrow.Author.Needs.{needs}
 use Rattle.host_judge.proofs.OneByte.{none-kept, grown-fields}
-use Rattle.host_judge.proofs.hearing.grow.Statement.{statement}
-use Rattle.host_judge.proofs.hearing.grow.Tie as tie
+use Rattle.host_judge.proofs.taking.grow.Statement.{statement}
+use Rattle.host_judge.proofs.taking.grow.Tie as tie
 
 returns : tie.Need-returns
 returns c =
