@@ -1,4 +1,6 @@
 // What answering gives: an act on the flash, the state that follows, and a reply at the front of the reply buffer.
+#![tactic(auto)]
+
 ghost use Rattle.std.specs.Prelude.{◌≡◌, ◌≤◌, length};
 ghost use Rattle.packet.specs.Frame.{longest_data, Roomy};
 ghost use Rattle.packet_reply.specs.Reply.{status_reply, data_reply};
@@ -10,7 +12,7 @@ use state::{Stage, State};
 use verdict::Verdict;
 
 // What a request or a wake-up leads to; the reply has `count` bytes.
-#[derive(Drop)]
+#[derive(Clone, Copy)]
 pub struct Answered {
     pub act: Act,
     pub state: State,

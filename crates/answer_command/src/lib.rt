@@ -1,4 +1,6 @@
 // What a complete command is answered.
+#![tactic(auto)]
+
 ghost use Rattle.std.specs.Prelude.{◌≡◌, ◌≤◌, ◌<◌, get_or};
 ghost use Rattle.verdict.specs.declared.Verdict.TheVariants.{Granted};
 ghost use Rattle.profile.specs.Areas.{no_area};

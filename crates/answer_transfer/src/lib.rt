@@ -1,4 +1,6 @@
 // The packets of a write and of a read that is under way.
+#![tactic(auto)]
+
 ghost use Rattle.std.specs.Prelude.{◌≡◌, ◌+◌, ◌≤◌, ◌<◌, min};
 ghost use Rattle.verdict.specs.declared.Verdict.TheVariants.{Granted};
 ghost use Rattle.packet.specs.Frame.{longest_data, Roomy};

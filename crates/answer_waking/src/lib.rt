@@ -1,4 +1,6 @@
 // Waking up: one byte in setting.
+#![tactic(auto)]
+
 ghost use Rattle.std.specs.Prelude.{◌≡◌, [], ◌∷◌};
 ghost use Rattle.packet.specs.Frame.{Roomy};
 ghost use Rattle.state.specs.declared.Pulse.TheVariants.{Acknowledged};

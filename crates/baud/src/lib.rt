@@ -1,4 +1,6 @@
 // The line setting of a baud rate, and when a rate is refused.
+#![tactic(auto)]
+
 ghost use Rattle.std.specs.Prelude.{◌≡◌, ◌+◌, ◌*◌, ◌/◌, ◌≤◌, ◌<◌};
 ghost use Rattle.verdict.specs.Check.{first_fault, verdict_of};
 ghost use Rattle.baud.specs.Rate.{Clocked, Limited, setting_of, apart_of, rate_off, rate_checks};
@@ -6,7 +8,7 @@ ghost use Rattle.baud.specs.Rate.{Clocked, Limited, setting_of, apart_of, rate_o
 use verdict::{Reason, Verdict};
 
 // MDDR 0: unused.
-#[derive(Drop)]
+#[derive(Clone, Copy)]
 pub struct LineSetting {
     pub abcs: u8,
     pub brr: u8,
@@ -14,7 +16,7 @@ pub struct LineSetting {
 }
 
 // ABCS, and the divisors D and BRR + 1 that it goes with.
-#[derive(Drop)]
+#[derive(Clone, Copy)]
 struct Clocking {
     abcs: u8,
     d: u64,
@@ -22,7 +24,7 @@ struct Clocking {
 }
 
 // M as it counts in the exact rate, and MDDR, by which it is set.
-#[derive(Drop)]
+#[derive(Clone, Copy)]
 struct Modulation {
     counts: u64,
     mddr: u8,

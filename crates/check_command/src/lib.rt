@@ -1,4 +1,6 @@
 // The checks of a complete command, in the paper's order.
+#![tactic(auto)]
+
 ghost use Rattle.std.specs.Prelude.{◌≡◌};
 ghost use Rattle.profile.specs.Areas.{areas_of};
 ghost use Rattle.profile_ranges.specs.Ranges.{range_checks};

@@ -1,4 +1,6 @@
 // The checks of a packet in a write and in a read, in the paper's order.
+#![tactic(auto)]
+
 ghost use Rattle.std.specs.Prelude.{not, [], ◌∷◌, ◌≡◌, ◌+◌, ◌≤◌};
 ghost use Rattle.verdict.specs.Check.{◌gives◌, first_fault, verdict_of};
 ghost use Rattle.verdict.specs.declared.Reason.TheVariants.{NotNextRequest};

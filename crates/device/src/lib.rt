@@ -1,4 +1,6 @@
 // The device: start, reset, feed.
+#![tactic(auto)]
+
 mod feeding;
 
 ghost use Rattle.device_calls.specs.Calls.{buffers};
@@ -11,7 +13,7 @@ use profile::Profile;
 use state::State;
 
 // What feeding answers: the state, how many bytes were consumed, and how long the reply is.
-#[derive(Drop)]
+#[derive(Clone, Copy)]
 pub struct Fed {
     pub refusal: Refusal,
     pub state: State,

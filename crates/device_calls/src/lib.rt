@@ -1,4 +1,6 @@
 // Which calls are refused; starting and resetting.
+#![tactic(auto)]
+
 mod refusals;
 
 ghost use Rattle.std.specs.Prelude.{length};
@@ -11,7 +13,7 @@ pub use refusals::{is_accepted, number, refused};
 use state::State;
 
 // The rows of the refused calls, in order of check.
-#[derive(Drop)]
+#[derive(Clone, Copy)]
 pub enum Row {
     // the profile is not acceptable: 4
     Unacceptable,
@@ -26,14 +28,14 @@ pub enum Row {
 }
 
 // A call is accepted, or refused by a row.
-#[derive(Drop)]
+#[derive(Clone, Copy)]
 pub enum Refusal {
     Accepted,
     By(Row),
 }
 
 // What starting and resetting answer.
-#[derive(Drop)]
+#[derive(Clone, Copy)]
 pub struct Started {
     pub refusal: Refusal,
     pub state: State,

@@ -1,4 +1,6 @@
 // Acts on the image that a caller lends: each byte goes where its address lies, and no other byte changes.
+#![tactic(auto)]
+
 ghost use Rattle.std.specs.Prelude.{◌≡◌, ◌+◌, ◌-◌, ◌≤◌, min, length, replicate};
 ghost use Rattle.numbers.specs.Part.{PartAt};
 ghost use Rattle.profile.specs.Areas.{areas_of};
@@ -11,7 +13,7 @@ use numbers::lower;
 use profile::{Area, Place, Profile, Spot};
 
 // What an answer does to the flash.
-#[derive(Drop)]
+#[derive(Clone, Copy)]
 pub enum Act {
     Nothing,
     // SAD to EAD, both inclusive, becomes FFh
@@ -23,7 +25,7 @@ pub enum Act {
 }
 
 // A part of the image, by places in it.
-#[derive(Drop)]
+#[derive(Clone, Copy)]
 struct Part {
     from: usize,
     // not included

@@ -1,9 +1,11 @@
 // The blank check: the first unit of flash bytes that holds a byte other than FFh.
+#![tactic(auto)]
+
 ghost use Rattle.std.specs.Prelude.{true, ◌≡◌, ◌+◌, ◌≤◌, ◌<◌, min, max, length, take};
 ghost use Rattle.flash_blank.specs.Blank.{searched, all_blank};
 
 // What looking for the first unit that is not blank finds.
-#[derive(Drop)]
+#[derive(Clone, Copy)]
 pub enum Search {
     // all bytes are FFh
     Clean,

@@ -1,4 +1,6 @@
 // Requests as numbers, and a judge out of 36 bytes and into them.
+#![tactic(auto)]
+
 mod requests;
 
 ghost use Rattle.std.specs.Prelude.{[], ◌∷◌, ◌++◌, ◌≡◌, length};
@@ -15,21 +17,21 @@ pub use requests::request_of;
 use requests::{first_number, request_number, second_number};
 
 // A request, or that the numbers are none.
-#[derive(Drop)]
+#[derive(Clone, Copy)]
 pub enum RequestIn {
     Is(Request),
     NoRequest,
 }
 
 // A verdict, or that the number is none.
-#[derive(Drop)]
+#[derive(Clone, Copy)]
 pub enum JudgementIn {
     Is(Judgement),
     NoJudgement,
 }
 
 // What a judge's bytes begin with: request and verdict, or that they are no judge.
-#[derive(Drop)]
+#[derive(Clone, Copy)]
 pub enum HeadIn {
     Is(Request, Judgement),
     NoJudge,

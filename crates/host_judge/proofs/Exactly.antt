@@ -1,6 +1,6 @@
 -- Each verdict exactly: the bytes that it is the verdict on, said without the judge. Assumes nothing.
 use Rattle.std.proofs.Common.{◌≡◌, ℕ, suc, ◌+◌, ◌-◌, ◌<◌, ◌≤◌, Bool, true, false, cond, not, ◌&&◌, eqb, ◌↔◌, List, [], ◌∷◌, ◌++◌, length, get_or, take, drop, sym, refl, ap, ◌∙◌, subst, ⊎_elim, arith, length-drop, take-append-drop, get_or-drop, take_all, get_or-take, take_at, eq-eqb, ne_eqb, eqb-true, le-leb}
-use mathlib.Core.Bool.{and_false}
+use mathlib.Core.Bool.{and-false}
 use lib.ListN.{get_or-append}
 use lib.Seq.{take-append_seam, drop-append_seam}
 use borrow.Author.Tests.{eqb-false, not-true}
@@ -224,8 +224,8 @@ grants_so Nothing number behind g = absurd g
 
 grants_other : (due : Due) (number n res first : ℕ) → (res ≡ number → ⊥) → grants due number n res first ≡ false
 unfolding grants
-grants_other Status number n res first h = rw (ne_eqb res number h) (and_false (eqb n 2))
-grants_other (Data count) number n res first h = rw (ne_eqb res number h) (and_false (eqb n (count + 1)))
+grants_other Status number n res first h = rw (ne_eqb res number h) (and-false (eqb n 2))
+grants_other (Data count) number n res first h = rw (ne_eqb res number h) (and-false (eqb n (count + 1)))
 grants_other Nothing number n res first h = refl
 
 -- what the verdict on contents says of them, and which have it

@@ -1,4 +1,6 @@
 // The judge of replies: what the bytes that come back say to a request. No verdict is there until a reply gives one.
+#![tactic(auto)]
+
 mod hearing;
 mod taking;
 
@@ -12,7 +14,7 @@ use profile::Area;
 use taking::hear;
 
 // What a request was answered.
-#[derive(Drop)]
+#[derive(Clone, Copy)]
 pub enum Judgement {
     // nothing yet, or part of a packet
     Unanswered,
@@ -25,7 +27,7 @@ pub enum Judgement {
 }
 
 // What grants a request.
-#[derive(Drop)]
+#[derive(Clone, Copy)]
 pub enum Due {
     // a status reply, OK
     Status,
@@ -36,7 +38,7 @@ pub enum Due {
 }
 
 // What came of a reply. All of it that later requests need stands here.
-#[derive(Drop)]
+#[derive(Clone, Copy)]
 pub struct Reply {
     // how many bytes: 81h is the first
     pub count: u32,
@@ -51,7 +53,7 @@ pub struct Reply {
 }
 
 // What the judge knows between two bytes.
-#[derive(Drop)]
+#[derive(Clone, Copy)]
 pub struct Judge {
     pub request: Request,
     pub judgement: Judgement,
@@ -59,7 +61,7 @@ pub struct Judge {
 }
 
 // What taking bytes answers.
-#[derive(Drop)]
+#[derive(Clone, Copy)]
 pub struct Taken {
     pub judge: Judge,
     // how many bytes were taken
@@ -70,14 +72,14 @@ pub struct Taken {
 }
 
 // SCI of a signature, where one was passed.
-#[derive(Drop)]
+#[derive(Clone, Copy)]
 pub enum Sci {
     Is(u32),
     Unknown,
 }
 
 // The fields of an area, where one was passed.
-#[derive(Drop)]
+#[derive(Clone, Copy)]
 pub enum Fields {
     Are(Area),
     Unknown,

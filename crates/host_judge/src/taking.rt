@@ -8,14 +8,14 @@ use crate::{Judge, Judgement, Reply};
 use packet::Kind;
 
 // The judge behind some bytes, and how many of them were taken.
-#[derive(Drop)]
+#[derive(Clone, Copy)]
 pub(crate) struct Hearing {
     pub(crate) judge: Judge,
     pub(crate) count: usize,
 }
 
 // What came of a reply behind some bytes, and how many of them were taken.
-#[derive(Drop)]
+#[derive(Clone, Copy)]
 struct Part {
     reply: Reply,
     taken: usize,

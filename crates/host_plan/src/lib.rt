@@ -1,11 +1,13 @@
 // Which packets write a range: the command, then its data in packets of whole units, one after the other, by value.
+#![tactic(auto)]
+
 ghost use Rattle.std.specs.Prelude.{◌≡◌, ◌≤◌};
 ghost use Rattle.host_plan.specs.Plan.{size_for, plan_of, following_of};
 
 use host_request::Request;
 
 // What is still to be sent of a write.
-#[derive(Drop)]
+#[derive(Clone, Copy)]
 pub struct Plan {
     pub sad: u32,
     pub ead: u32,
@@ -19,7 +21,7 @@ pub struct Plan {
 }
 
 // A request to send, with the part of the data that goes with it, and what is to be sent behind it.
-#[derive(Drop)]
+#[derive(Clone, Copy)]
 pub struct Sending {
     pub request: Request,
     pub from: usize,
@@ -28,14 +30,14 @@ pub struct Sending {
 }
 
 // What follows.
-#[derive(Drop)]
+#[derive(Clone, Copy)]
 pub enum Following {
     Send(Sending),
     Done,
 }
 
 // Why there is no plan.
-#[derive(Drop)]
+#[derive(Clone, Copy)]
 pub enum Unplanned {
     // SAD is above EAD
     Reversed,
@@ -52,7 +54,7 @@ pub enum Unplanned {
 }
 
 // What planning answers.
-#[derive(Drop)]
+#[derive(Clone, Copy)]
 pub enum Planned {
     Is(Plan),
     Refused(Unplanned),

@@ -1,4 +1,6 @@
 // What a host asks of a device: requests as values, and each as its packet at the front of a buffer that the caller lends.
+#![tactic(auto)]
+
 ghost use Rattle.std.specs.Prelude.{◌≡◌, [], ◌∷◌, ◌++◌};
 ghost use Rattle.numbers.specs.Bytes.{bytes_of};
 ghost use Rattle.packet.specs.declared.Kind.TheVariants.{Command};
@@ -9,7 +11,7 @@ use packet::Kind;
 
 // The eight commands, the data of a write, and what asks for a read's next packet. The code of authenticate and the data of a write are lent
 // beside the request.
-#[derive(Drop)]
+#[derive(Clone, Copy)]
 pub enum Request {
     Inquiry,
     // SAD, EAD
@@ -28,7 +30,7 @@ pub enum Request {
 }
 
 // Why there is no packet.
-#[derive(Drop)]
+#[derive(Clone, Copy)]
 pub enum Unbuilt {
     // the lent bytes are not as many as the request has: 16 of authenticate, 1 to 1,024 of write data, none of the others
     WrongAmount,
@@ -39,7 +41,7 @@ pub enum Unbuilt {
 }
 
 // What building answers.
-#[derive(Drop)]
+#[derive(Clone, Copy)]
 pub enum Built {
     // how many bytes the packet has
     Is(usize),

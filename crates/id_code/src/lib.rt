@@ -1,4 +1,6 @@
 // The ID code: where it is stored, and what a code that is sent to the device is answered.
+#![tactic(auto)]
+
 ghost use Rattle.std.specs.Prelude.{◌++◌, ◌≡◌, ◌≤◌, take, drop};
 ghost use Rattle.verdict.specs.Check.{first_fault, verdict_of};
 ghost use Rattle.profile.specs.Areas.{areas_of};

@@ -1,4 +1,6 @@
 // The device for other languages: numbers and byte slices.
+#![tactic(auto)]
+
 ghost use Rattle.std.specs.Prelude.{◌||◌, cond, ◌≡◌, eqb, length};
 ghost use Rattle.profile_bytes.specs.Profile.{profile_in};
 ghost use Rattle.state_bytes.specs.State.{state_length, state_over};

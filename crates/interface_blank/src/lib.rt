@@ -1,4 +1,6 @@
 // The blank check by itself, for benchmarks in other languages.
+#![tactic(auto)]
+
 ghost use Rattle.std.specs.Prelude.{◌≡◌, length};
 ghost use Rattle.flash_blank.specs.Blank.{searched};
 ghost use Rattle.interface_blank.specs.Number.{number_in};

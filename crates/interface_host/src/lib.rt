@@ -1,4 +1,6 @@
 // The host's end for other languages: numbers and byte slices.
+#![tactic(auto)]
+
 ghost use Rattle.std.specs.Prelude.{◌≡◌};
 ghost use Rattle.interface_host.specs.Post.{built_number, built_length, BuildsBytes, BeginsBytes, TakesBytes, verdict_number};
 

@@ -1,4 +1,6 @@
 // Records of a recording for other languages: numbers and byte slices.
+#![tactic(auto)]
+
 ghost use Rattle.std.specs.Prelude.{◌≡◌};
 ghost use Rattle.interface_record.specs.Post.{part_by, ReadsBytes, WritesBytes};
 

@@ -1,4 +1,6 @@
 // The replay of a recorded line for other languages: numbers and byte slices.
+#![tactic(auto)]
+
 ghost use Rattle.interface_replay.specs.Post.{Replayed};
 
 // The image with a recorded line replayed on it; how many of the recording's bytes were read, and why no more: 6 at its end, or the

@@ -1,6 +1,6 @@
 -- Comparing two lists from the front, one byte at a time. Assumes nothing.
 use mathlib.Core.List.{List, [], ◌∷◌}
-use mathlib.Core.Bool.{true, false, and_false}
+use mathlib.Core.Bool.{true, false, and-false}
 use mathlib.Core.Path.{◌≡◌, refl, ap}
 use Prim.Native.Nat.{ℕ, suc, ◌+◌, ◌≤◌, ◌<◌}
 use native.Mathlib.Numerals.{add-one}
@@ -17,7 +17,7 @@ unfolding same
 same_longer [] [] h = absurd (h refl)
 same_longer [] (y ∷ ys) h = refl
 same_longer (x ∷ xs) [] h = refl
-same_longer (x ∷ xs) (y ∷ ys) h = rw (same_longer xs ys (λ e. h (ap suc e))) (and_false (eqb x y))
+same_longer (x ∷ xs) (y ∷ ys) h = rw (same_longer xs ys (λ e. h (ap suc e))) (and-false (eqb x y))
 
 -- at byte i of two lists that are equally long
 module _ (xs ys : List ℕ) (i : ℕ) (long : length xs ≡ length ys) (h : i < length xs) where

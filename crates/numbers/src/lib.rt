@@ -1,10 +1,12 @@
 // Numbers on the line: two or four bytes, high byte first; the smaller of two numbers; whether bytes are the same.
+#![tactic(auto)]
+
 ghost use Rattle.std.specs.Prelude.{◌≡◌, ◌+◌, ◌<◌, min, leb};
 ghost use Rattle.numbers.specs.Bytes.{number_at, Put};
 ghost use Rattle.numbers.specs.Same.{same};
 
 // A number that was read, or that the slice ends before the number does.
-#[derive(Drop)]
+#[derive(Clone, Copy)]
 pub enum Number {
     Is(u32),
     CutShort,

@@ -1,6 +1,6 @@
 -- What copying and summing bytes, building a packet from a buffer's front and answering for it need. Assumes nothing.
 use Rattle.std.proofs.Common.{◌≡◌, ℕ, ◌+◌, ◌-◌, ◌%◌, ◌^◌, ◌<◌, ◌≤◌, true, false, leb, List, [], ◌∷◌, ◌++◌, length, get_or, take, drop, set, sym, refl, ap, ◌∙◌, append_assoc, add-one, arith, length-append, length-drop, length-set, drop_of_length-le, take_all, take-suc, drop-drop, take-suc-set, drop_at, le-leb}
-use mathlib.Core.Bool.{and_false}
+use mathlib.Core.Bool.{and-false}
 use lib.Seq.{sets, sets-eq, take-append_seam}
 use borrow.Author.Tests.{lt-leb}
 use Rattle.numbers.specs.Bytes.{bytes_of, field, with_number}
@@ -123,7 +123,7 @@ module _ (kind : Kind) where
   -- no kind permits more than the longest data packet has
   pub too_long : (n : ℕ) → longest_data + 1 < n → permitted kind n ≡ false
   unfolding permitted
-  too_long n h = rw (lt-leb n (longest_of kind) (omega (arith, longest_most kind))) (and_false (leb 1 n))
+  too_long n h = rw (lt-leb n (longest_of kind) (omega (arith, longest_most kind))) (and-false (leb 1 n))
 
   -- a packet that is not permitted or has no room, and one that is and has it
   module _ (contents b : List ℕ) where
@@ -133,7 +133,7 @@ module _ (kind : Kind) where
 
     pub no_room : length b < length contents + 5 → has_room kind contents b ≡ false
     unfolding has_room
-    no_room h = rw (lt-leb (length contents + 5) (length b) h) (and_false (permitted kind (length contents)))
+    no_room h = rw (lt-leb (length contents + 5) (length b) h) (and-false (permitted kind (length contents)))
 
     pub room : 1 ≤ length contents → length contents ≤ longest_of kind → length contents + 5 ≤ length b → has_room kind contents b ≡ true
     unfolding has_room permitted

@@ -1,4 +1,6 @@
 // Packets: what the bytes that came so far are, whether a packet is good, its payload; packets that are built.
+#![tactic(auto)]
+
 mod framing;
 
 ghost use Rattle.std.specs.Prelude.{◌≡◌, ◌%◌};
@@ -17,14 +19,14 @@ pub const LONGEST_PACKET: usize = 1030;
 pub const LONGEST_DATA: usize = 1024;
 
 // The two kinds: a command starts with 01h, data with 81h.
-#[derive(Drop)]
+#[derive(Clone, Copy)]
 pub enum Kind {
     Command,
     Data,
 }
 
 // What the bytes received so far are to a packet of a kind.
-#[derive(Drop)]
+#[derive(Clone, Copy)]
 pub enum Progress {
     // the first byte is not the kind's start byte
     Astray,

@@ -1,4 +1,6 @@
 // What stands in a packet: COM or RES, the command of a number, the information, and the numbers in it.
+#![tactic(auto)]
+
 ghost use Rattle.std.specs.Prelude.{◌≡◌, get_or};
 ghost use Rattle.numbers.specs.Part.{PartAt};
 ghost use Rattle.packet_fields.specs.Fields.{com_of, info_count, info_of, info_at, four_at, info_length};
@@ -6,7 +8,7 @@ ghost use Rattle.packet_fields.specs.Fields.{com_of, info_count, info_of, info_a
 use numbers::Number;
 
 // The commands.
-#[derive(Drop)]
+#[derive(Clone, Copy)]
 pub enum Com {
     Inquiry,
     Erase,

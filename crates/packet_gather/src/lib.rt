@@ -1,4 +1,6 @@
 // Bytes that only add to an incomplete packet, taken in one copy.
+#![tactic(auto)]
+
 ghost use Rattle.std.specs.Prelude.{◌≡◌, ◌+◌, ◌≤◌, length};
 ghost use Rattle.std.proofs.Math.Seq.{paste};
 ghost use Rattle.packet_gather.specs.Gather.{lack_of, open_of, gain_of, Holds, Taken};

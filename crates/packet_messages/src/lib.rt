@@ -1,4 +1,6 @@
 // What the signature and area replies hold behind RES.
+#![tactic(auto)]
+
 ghost use Rattle.std.specs.Prelude.{◌≡◌};
 ghost use Rattle.packet_messages.specs.Messages.{area_message, signature_message};
 

@@ -1,4 +1,6 @@
 // Replies: status and data packets at the front of a buffer that the caller lends.
+#![tactic(auto)]
+
 ghost use Rattle.std.specs.Prelude.{◌∷◌, ◌≡◌};
 ghost use Rattle.packet.specs.declared.Kind.TheVariants.{Data};
 ghost use Rattle.packet.specs.Frame.{Framed};

@@ -1,5 +1,5 @@
 -- Where addresses stand in the image: below its length, no two at one place, and an area's addresses together where the areas ascend. Assumes nothing.
-use mathlib.Core.Bool.{Bool, true, false, and_false}
+use mathlib.Core.Bool.{Bool, true, false, and-false}
 use mathlib.Core.List.Memᴰ
 use mathlib.Core.List.{List, [], ◌∷◌, Memᴰ}
 use mathlib.Core.Logic.{◌⊎◌, inl, inr}
@@ -21,7 +21,7 @@ inside_within a x h k = rw (le-leb a.sad x h) (le-leb x a.ead k)
 
 pub inside_not : (a : Area) (x : ℕ) → a.ead < x → inside a x ≡ false
 unfolding inside
-inside_not a x h = simp (lt-leb x a.ead h, and_false)
+inside_not a x h = simp (lt-leb x a.ead h, and-false)
 
 abbrev spot_at : ℕ → Area → Spot
 spot_at base a = record { area = a; base = base }

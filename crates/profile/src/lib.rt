@@ -1,9 +1,11 @@
 // The profile and the image: up to eight areas, and where the byte at an address stands.
+#![tactic(auto)]
+
 ghost use Rattle.std.specs.Prelude.{◌≡◌, ◌≤◌, min};
 ghost use Rattle.profile.specs.Areas.{areas_of, size_of, inside};
 ghost use Rattle.profile.specs.Places.{place_of, unit_at, Located};
 
-#[derive(Drop)]
+#[derive(Clone, Copy)]
 pub struct Area {
     // 0 user, 1 data, 2 config
     pub koa: u8,
@@ -16,13 +18,13 @@ pub struct Area {
 }
 
 // Low equal to high: no limit.
-#[derive(Drop)]
+#[derive(Clone, Copy)]
 pub struct Window {
     pub low: u32,
     pub high: u32,
 }
 
-#[derive(Drop)]
+#[derive(Clone, Copy)]
 pub struct Profile {
     pub areas: [Area; 8],
     pub noa: u8,
@@ -34,13 +36,13 @@ pub struct Profile {
 }
 
 // An area, and the place of its first byte in the image.
-#[derive(Drop)]
+#[derive(Clone, Copy)]
 pub struct Spot {
     pub area: Area,
     pub base: usize,
 }
 
-#[derive(Drop)]
+#[derive(Clone, Copy)]
 pub enum Place {
     In(Spot),
     Nowhere,

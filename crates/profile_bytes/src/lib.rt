@@ -1,4 +1,6 @@
 // A profile out of 156 bytes.
+#![tactic(auto)]
+
 ghost use Rattle.std.specs.Prelude.{◌≡◌, length};
 ghost use Rattle.packet_fields.specs.Fields.{two_at};
 ghost use Rattle.profile_bytes.specs.Profile.{profile_length, area_at, areas_from, fields_in, no_profile, profile_in};

@@ -1,4 +1,6 @@
 // What a range of addresses may be asked for: the checks behind D0h and DAh, for commands and for states alike.
+#![tactic(auto)]
+
 ghost use Rattle.std.specs.Prelude.{◌≡◌};
 ghost use Rattle.verdict.specs.Check.{first_fault, verdict_of};
 ghost use Rattle.profile.specs.Areas.{areas_of};
@@ -8,7 +10,7 @@ ghost use Rattle.profile_ranges.specs.InArea.{StartsIn};
 use profile::{Area, Place, Profile, Window};
 use verdict::{Reason, Verdict};
 
-#[derive(Drop)]
+#[derive(Clone, Copy)]
 pub enum Purpose {
     Erase,
     Write,

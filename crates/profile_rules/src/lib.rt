@@ -1,4 +1,6 @@
 // When a profile is acceptable, and which rule it breaks where it is not.
+#![tactic(auto)]
+
 ghost use Rattle.std.specs.Prelude.{◌≡◌, ◌++◌, ◌≤◌, ◌<◌, ◌+◌};
 ghost use Rattle.verdict.specs.Check.{first_fault};
 ghost use Rattle.profile.specs.Areas.{areas_of, total_of};
@@ -8,7 +10,7 @@ ghost use Rattle.profile_rules.specs.Judged.{tallies_of, uncounted_by, survey_of
 use profile::{Area, Profile};
 
 // One rule for each condition of the protocol; those of an area carry its number in the table.
-#[derive(Drop)]
+#[derive(Clone, Copy)]
 pub enum Rule {
     // NOA is 1 to 8
     AreaCount,
@@ -36,21 +38,21 @@ pub enum Rule {
     WindowReversed,
 }
 
-#[derive(Drop)]
+#[derive(Clone, Copy)]
 pub enum Acceptance {
     Acceptable,
     Breaks(Rule),
 }
 
 // Whether a profile is acceptable, and the length of the image that it asks for: 0 where it is not.
-#[derive(Drop)]
+#[derive(Clone, Copy)]
 pub struct Judged {
     pub found: Acceptance,
     pub total: usize,
 }
 
 // The config areas, those of them that are too small, and the image's length.
-#[derive(Drop)]
+#[derive(Clone, Copy)]
 struct Tallies {
     configs: usize,
     small: usize,
@@ -58,7 +60,7 @@ struct Tallies {
 }
 
 // What a walk over the areas finds and counts: nothing is counted where it finds a rule broken.
-#[derive(Drop)]
+#[derive(Clone, Copy)]
 struct Surveyed {
     found: Acceptance,
     tallies: Tallies,

@@ -1,4 +1,6 @@
 // A device driven over a script of deliveries and resets.
+#![tactic(auto)]
+
 mod delivering;
 
 ghost use Rattle.std.specs.Prelude.{◌≡◌};
@@ -15,7 +17,7 @@ use recording::{Ended, Extent, Found};
 use state::State;
 
 // How a script was driven: the refusal of its first call, the state after the last, how far the script was read and why no farther.
-#[derive(Drop)]
+#[derive(Clone, Copy)]
 pub struct Driven {
     pub refusal: Refusal,
     pub state: State,

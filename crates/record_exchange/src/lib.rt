@@ -1,4 +1,6 @@
 // What an exchange of a line tells: an act, read out of request and reply. It sees no state and no area.
+#![tactic(auto)]
+
 ghost use Rattle.std.specs.Prelude.{◌≡◌, length};
 ghost use Rattle.record_exchange.specs.Exchange.{idle, answered_ok, command_told, command_read, data_told, data_read, exchange_read, CanMove};
 
@@ -7,14 +9,14 @@ use packet_fields::Com;
 use verdict::Verdict;
 
 // Where the next write data lands.
-#[derive(Drop)]
+#[derive(Clone, Copy)]
 pub enum Landing {
     Nowhere,
     At(usize),
 }
 
 // What an exchange tells.
-#[derive(Drop)]
+#[derive(Clone, Copy)]
 pub struct Told {
     pub act: Act,
     pub landing: Landing,

@@ -1,4 +1,6 @@
 // A recorded line, played on an image.
+#![tactic(auto)]
+
 ghost use Rattle.std.specs.Prelude.{◌≡◌, length};
 ghost use Rattle.recording.specs.declared.Direction.TheVariants.{Device};
 ghost use Rattle.recording.specs.declared.Found.TheVariants.{Is};
@@ -14,14 +16,14 @@ use record_exchange::{Landing, read_exchange};
 use recording::{Direction, Extent, Found, Part};
 
 // What the host sent last, while it has no answer.
-#[derive(Drop)]
+#[derive(Clone, Copy)]
 enum Waiting {
     Nothing,
     For(Part),
 }
 
 // How far a recording has been played.
-#[derive(Drop)]
+#[derive(Clone, Copy)]
 struct Head {
     at: usize,
     landing: Landing,

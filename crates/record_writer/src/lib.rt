@@ -1,4 +1,6 @@
 // A record of a recording, written into a buffer that the caller lends.
+#![tactic(auto)]
+
 ghost use Rattle.std.specs.Prelude.{◌≡◌, ◌+◌, ◌≤◌, length};
 ghost use Rattle.recording.specs.Format.{direction_number, entry};
 ghost use Rattle.record_writer.specs.Writing.{Wrote};
@@ -6,7 +8,7 @@ ghost use Rattle.record_writer.specs.Writing.{Wrote};
 use recording::{Directed, Direction, Fault};
 
 // What writing a record answers.
-#[derive(Drop)]
+#[derive(Clone, Copy)]
 pub enum Written {
     // the place behind the record
     Behind(usize),

@@ -1,4 +1,6 @@
 // Recordings of a line: which record stands at a place, or why there is none.
+#![tactic(auto)]
+
 ghost use Rattle.std.specs.Prelude.{◌&&◌, ◌≡◌, ◌+◌, ◌≤◌, leb, length};
 ghost use Rattle.numbers.specs.Bytes.{field};
 ghost use Rattle.numbers.specs.Same.{same};
@@ -10,7 +12,7 @@ ghost use Rattle.recording.specs.Recording.{count_at, part_at, length_checks, fo
 use numbers::{Number, has_field};
 
 // Who sent a record's bytes; a reset of the device has none.
-#[derive(Drop)]
+#[derive(Clone, Copy)]
 pub enum Direction {
     Host,
     Device,
@@ -18,14 +20,14 @@ pub enum Direction {
 }
 
 // A byte as a direction.
-#[derive(Drop)]
+#[derive(Clone, Copy)]
 pub enum Directed {
     Known(Direction),
     Unknown,
 }
 
 // Why a record is not read, or not written.
-#[derive(Drop)]
+#[derive(Clone, Copy)]
 pub enum Fault {
     BadMark,
     BadDirection,
@@ -36,7 +38,7 @@ pub enum Fault {
 }
 
 // The bytes of a record, by places in the recording.
-#[derive(Drop)]
+#[derive(Clone, Copy)]
 pub struct Part {
     pub from: usize,
     // not included; the next record begins here
@@ -44,7 +46,7 @@ pub struct Part {
 }
 
 // What stands at a place of a recording.
-#[derive(Drop)]
+#[derive(Clone, Copy)]
 pub enum Found {
     // a record
     Is(Direction, Part),
@@ -55,7 +57,7 @@ pub enum Found {
 }
 
 // How the reading of a recording ended.
-#[derive(Drop)]
+#[derive(Clone, Copy)]
 pub enum Ended {
     // it has not
     Not,
@@ -66,7 +68,7 @@ pub enum Ended {
 }
 
 // How many bytes of a recording were read, and why no more.
-#[derive(Drop)]
+#[derive(Clone, Copy)]
 pub struct Extent {
     pub count: usize,
     pub ended: Ended,

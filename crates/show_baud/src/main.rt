@@ -1,4 +1,6 @@
 // Prints the line setting of the known baud rates, and whether each is refused.
+#![tactic(auto)]
+
 use verdict::Verdict;
 
 // Source 001: tables 23 and 24.

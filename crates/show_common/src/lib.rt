@@ -1,4 +1,6 @@
 // What the programs that show vectors share: hexadecimal text and the bench profile.
+#![tactic(auto)]
+
 ghost use Rattle.std.specs.Prelude.{◌≡◌, ◌<◌};
 ghost use Rattle.profile.specs.Bench.{bench};
 ghost use Rattle.show_common.specs.Hex.{digit_of, hex_of};

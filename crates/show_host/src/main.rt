@@ -1,4 +1,6 @@
 // Requests and their packets, and plans of writes. Each call has a line: what was given, and what is answered.
+#![tactic(auto)]
+
 use host_plan::{Following, Plan, Planned, Sending, Unplanned};
 use host_request::{Built, Request, Unbuilt};
 

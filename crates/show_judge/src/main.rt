@@ -1,5 +1,7 @@
 // What replies say to requests: whole ones, in noise and in cuts, and with each byte changed to every value. Each call has a line: what was
 // given, and what is answered.
+#![tactic(auto)]
+
 use host_judge::{Judge, Judgement};
 use host_request::Request;
 use verdict::{Reason, Verdict};
@@ -203,7 +205,7 @@ fn hear_longest() {
 }
 
 // How many replies say each of the four.
-#[derive(Drop)]
+#[derive(Clone, Copy)]
 struct Counts {
     unanswered: u32,
     passed: u32,

@@ -1,4 +1,6 @@
 // Sessions with the device on the bench profile: what is sent is written out below, and each reply is printed.
+#![tactic(auto)]
+
 ghost use Rattle.std.specs.Prelude.{◌+◌, ◌≤◌, ◌<◌, length};
 
 use device::Refusal;
@@ -43,7 +45,7 @@ fn print_refusal(refusal: Refusal) {
 }
 
 // How a turn of a talk ends: the state, how much was sent, and whether no reply has come yet.
-#[derive(Drop)]
+#[derive(Clone, Copy)]
 struct Turn {
     state: State,
     used: usize,
@@ -160,7 +162,7 @@ fn length_at(script: &[u8], at: usize) -> usize {
 }
 
 // What to say next, and where the script goes on.
-#[derive(Drop)]
+#[derive(Clone, Copy)]
 struct Line {
     title: usize,
     from: usize,

@@ -1,5 +1,7 @@
 // Reads and writes records: every refusal, cut and limit, places within and beyond, and what was written read back. Each call has a line:
 // the bytes, the place, the answer, and what a buffer then holds.
+#![tactic(auto)]
+
 ghost use Rattle.std.specs.Prelude.{◌≤◌, length};
 ghost use Rattle.recording.specs.Recording.{Inside};
 

@@ -1,5 +1,7 @@
 // Sessions with every effect on the flash, on the bench profile. Each is run twice: once by the driver, and once call by call, to take
 // down what the host and the device sent. The recording is then replayed on a blank image, and the two images are compared.
+#![tactic(auto)]
+
 ghost use Rattle.std.specs.Prelude.{◌+◌, ◌≤◌, ◌<◌, length};
 
 use recording::{Direction, Extent, Found, Part};
@@ -38,7 +40,7 @@ fn note(line: &mut [u8], at: usize, direction: u8, bytes: &[u8]) -> usize {
 }
 
 // How far a session has come: the state, and how long the recording is.
-#[derive(Drop)]
+#[derive(Clone, Copy)]
 struct Turn {
     state: State,
     length: usize,
@@ -183,7 +185,7 @@ fn drives(image: &mut [u8], script: &[u8]) -> bool {
 }
 
 // Whether the image driven is the image replayed, and how much of it is not FFh.
-#[derive(Drop)]
+#[derive(Clone, Copy)]
 struct Outcome {
     same: bool,
     used: usize,
@@ -216,7 +218,7 @@ fn session(title: &[u8], script: &[u8]) {
 }
 
 // What became of the sessions that were cut, and how much of the last image is not FFh.
-#[derive(Drop)]
+#[derive(Clone, Copy)]
 struct Tally {
     cuts: usize,
     agree: usize,

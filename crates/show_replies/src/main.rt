@@ -1,4 +1,6 @@
 // Prints status, data and area replies, each packet in hex on a line of its own, under a heading line for each RES.
+#![tactic(auto)]
+
 use profile::Area;
 use verdict::{Reason, Verdict};
 

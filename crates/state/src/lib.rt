@@ -1,4 +1,6 @@
 // The state of the device: its stages and what they await, states that are made and changed, and whether one fits.
+#![tactic(auto)]
+
 mod changing;
 mod fitting;
 
@@ -13,7 +15,7 @@ use packet::Kind;
 use profile::{Profile, Window};
 
 // How far waking up has come.
-#[derive(Drop)]
+#[derive(Clone, Copy)]
 pub enum Pulse {
     Zero,
     One,
@@ -21,13 +23,13 @@ pub enum Pulse {
 }
 
 // What a write or a read has still to do; at least one byte is left.
-#[derive(Drop)]
+#[derive(Clone, Copy)]
 pub struct Range {
     pub next: u32,
     pub left: u32,
 }
 
-#[derive(Drop)]
+#[derive(Clone, Copy)]
 pub enum Stage {
     Setting(Pulse),
     Authentication,
@@ -37,7 +39,7 @@ pub enum Stage {
 }
 
 // What a stage waits for.
-#[derive(Drop)]
+#[derive(Clone, Copy)]
 pub enum Awaited {
     // a byte of waking up, behind these low pulses
     WakeUp(Pulse),
@@ -45,7 +47,7 @@ pub enum Awaited {
 }
 
 // The ID stands first: the compiled code then copies a state by fewer and wider moves (docs/BENCHMARKS.md).
-#[derive(Drop)]
+#[derive(Clone, Copy)]
 pub struct State {
     // as latched with C3h
     pub id: [u8; 16],

@@ -1,4 +1,6 @@
 // A state out of 33 bytes, and into them.
+#![tactic(auto)]
+
 ghost use Rattle.std.specs.Prelude.{◌&&◌, [], ◌∷◌, ◌++◌, ◌≡◌, eqb, length};
 ghost use Rattle.std.proofs.lemmas.List.Edits.{sets};
 ghost use Rattle.std.proofs.Math.Seq.{paste};
@@ -11,7 +13,7 @@ use numbers::lower;
 use state::{Pulse, Range, Stage, State};
 
 // A stage, or that the bytes are no state.
-#[derive(Drop)]
+#[derive(Clone, Copy)]
 pub enum StageIn {
     Is(Stage),
     NoStage,

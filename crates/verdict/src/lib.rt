@@ -1,9 +1,11 @@
 // Why a request is refused, and the answer to it.
+#![tactic(auto)]
+
 ghost use Rattle.std.specs.Prelude.{◌≡◌};
 ghost use Rattle.verdict.specs.Code.{code_of, status_of};
 
 // One reason for each check of the protocol, in the order in which it names them.
-#[derive(Drop)]
+#[derive(Clone, Copy)]
 pub enum Reason {
     // every complete packet
     WrongEtx,
@@ -44,7 +46,7 @@ pub enum Reason {
 }
 
 // No case is a number, so none can be mistaken for an answer that was never given.
-#[derive(Drop)]
+#[derive(Clone, Copy)]
 pub enum Verdict {
     Granted,
     Refused(Reason),
