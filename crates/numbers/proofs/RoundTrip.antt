@@ -1,7 +1,7 @@
 -- What is written reads back, and what was read is written the same; once over the width. Assumes nothing.
 use mathlib.Core.List.{List, [], ◌∷◌, ◌++◌, append_assoc}
 use mathlib.Core.Path.{◌≡◌, refl, sym, ap, ◌∙◌}
-use Prim.Native.Nat.{ℕ, zero, suc, ◌+◌, ◌-◌, ◌*◌, ◌/◌, ◌%◌, ◌^◌, ◌≤◌, ◌<◌}
+use Prim.Native.Nat.{ℕ, zero, suc, ◌+◌, ◌*◌, ◌/◌, ◌%◌, ◌^◌, ◌≤◌, ◌<◌}
 use native.Mathlib.Nat.{mod-eq_of_lt, mod-one, mul_assoc, pow-succ', add-mul-div_right, add_comm, mul-add-mod_self_right}
 use native.Mathlib.Omega.{arith}
 use lib.Arith.{mod-mul, digits_lt, digits_div}

@@ -1,5 +1,5 @@
 -- No area has an address from 2^32 on: an area's EAD is a u32. Assumes nothing.
-use mathlib.Core.List.{List, [], ◌∷◌, map}
+use mathlib.Core.List.{List, [], ◌∷◌}
 use mathlib.Core.Path.{◌≡◌, refl}
 use Prim.Native.Nat.{ℕ, zero, suc, ◌+◌, ◌≤◌, ◌<◌, min}
 use native.Mathlib.Omega.{arith}
@@ -23,7 +23,7 @@ abbrev pub EndsBelow : ℕ → List Area → Type 0
 EndsBelow s table = (i : ℕ) → (get_or table i no_area).ead < s
 
 -- what owning a profile says of its areas
-each_below : (table : List Area) (us : List Val) → shadow (each (area.the_field).row.Denot (area.the_field).row.own_val (map (area.the_field).into table) us)
+each_below : (table : List Area) (us : List Val) → shadow (each (area.the_row).Denot (area.the_row).own_val table us)
     → EndsBelow 4294967296 table
 each_below [] us h i = omega arith
 each_below (a ∷ more) [] h i = absurd h

@@ -45,6 +45,7 @@ found base (a ∷ more) x spot e = go (inside a x) refl (found (base + size_of a
 
 -- an address lies in the area where it was found
 inside_found : (base : ℕ) (areas : List Area) (x : ℕ) (spot : Spot) → Found base areas x spot → inside spot.area x ≡ true
+inside_found base [] x spot x3 = elim x3 [ ]
 inside_found base (a ∷ more) x spot (inl here) = subst (λ (s : Spot). inside s.area x ≡ true) here.1 here.0
 inside_found base (a ∷ more) x spot (inr later) = inside_found (base + size_of a) more x spot later.1
 
@@ -69,6 +70,7 @@ has_place base (b ∷ more) x a m i e = go (inside b x) refl (Memᴰ.cases_cons 
     go false j (inr n) later = later n i (rw j at e)
 
 found_member : (base : ℕ) (areas : List Area) (x : ℕ) (spot : Spot) → Found base areas x spot → Memᴰ spot.area areas
+found_member base [] x spot x3 = elim x3 [ ]
 found_member base (a ∷ more) x spot (inl here) = Memᴰ.head (ap (λ (s : Spot). s.area) (sym here.1))
 found_member base (a ∷ more) x spot (inr later) = Memᴰ.tail (found_member (base + size_of a) more x spot later.1)
 
@@ -84,6 +86,7 @@ record Between (base behind : ℕ) (spot : Spot) (x : ℕ) : Type 0 where
 
 between : (base : ℕ) (areas : List Area) (x : ℕ) (spot : Spot) → Found base areas x spot → Between base (base + total_of areas) spot x
 unfolding tally
+between base [] x spot x3 = elim x3 [ ]
 between base (a ∷ more) x spot (inl here) =
     let b = inside_bounds a x here.0 in
     subst (λ (s : Spot). Between base (base + total_of (a ∷ more)) s x) here.1 (record { from = omega arith; below = omega arith })
@@ -98,6 +101,7 @@ below_total areas x spot e = omega (arith, (between 0 areas x spot (found 0 area
 -- and so does the end of the area in which an address was found: the image has all of it
 area_between : (base : ℕ) (areas : List Area) (x : ℕ) (spot : Spot) → Found base areas x spot → spot.base + size_of spot.area ≤ base + total_of areas
 unfolding tally
+area_between base [] x spot x3 = elim x3 [ ]
 area_between base (a ∷ more) x spot (inl here) = subst (λ (s : Spot). s.base + size_of s.area ≤ base + total_of (a ∷ more)) here.1 (omega arith)
 area_between base (a ∷ more) x spot (inr later) = omega (arith, area_between (base + size_of a) more x spot later.1)
 
@@ -114,6 +118,7 @@ apart base a more x y s t f g e =
     omega arith
 
 same_address : (base : ℕ) (areas : List Area) (x y : ℕ) (s t : Spot) → Found base areas x s → Found base areas y t → offset_in s x ≡ offset_in t y → x ≡ y
+same_address base [] x y s t x5 _ e = elim x5 [ ]
 same_address base (a ∷ more) x y s t (inl f) (inl g) e =
     let b = inside_bounds a x f.0 in
     let d = inside_bounds a y g.0 in
@@ -135,6 +140,7 @@ Above low (a ∷ more) = (low ≤ a.sad) × (a.sad ≤ a.ead) × Above (a.ead + 
 
 found_above : (low base : ℕ) (areas : List Area) (x : ℕ) (spot : Spot) → Above low areas → Found base areas x spot → low ≤ spot.area.sad
 unfolding Above
+found_above low base [] x spot h x4 = elim x4 [ ]
 found_above low base (a ∷ more) x spot h (inl here) = subst (λ (s : Spot). low ≤ s.area.sad) here.1 h.0
 found_above low base (a ∷ more) x spot h (inr later) =
     let up = found_above (a.ead + 1) (base + size_of a) more x spot h.2 later.1 in
@@ -143,6 +149,7 @@ found_above low base (a ∷ more) x spot h (inr later) =
 found_again : (low base : ℕ) (areas : List Area) (x y : ℕ) (spot : Spot) → Above low areas → Found base areas x spot → inside spot.area y ≡ true
     → place_from base areas y ≡ In spot
 unfolding Above place_from
+found_again low base [] x y spot h x5 i = elim x5 [ ]
 found_again low base (a ∷ more) x y spot h (inl here) i =
     let j : inside a y ≡ true = subst (λ (s : Spot). inside s.area y ≡ true) (sym here.1) i in
     rw j (ap In here.1)
