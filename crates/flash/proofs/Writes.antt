@@ -126,7 +126,7 @@ module _ (a : Area) (base lo hi : ℕ) (image : List ℕ) where
 
   -- the part with them copied over it
   pub store_part : (s : ℕ) (vs : List ℕ) (sk : ℕ) → Meets a base (length image) s (s + length vs) lo hi → sk ≡ min (a.sad - s) (length vs)
-      → (new : List ℕ) → new ≡ take (length (source vs sk)) (source vs sk) ++ drop (length (source vs sk)) part
+      → (new : List ℕ) → new ≡ source vs sk ++ drop (length (source vs sk)) part
       → replaced lo hi new image ≡ in_area (storing s vs) a base image
   store_part s vs sk m e new f =
       let w : sk + (hi - lo) - sk ≡ hi - lo = omega arith in

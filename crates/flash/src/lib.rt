@@ -113,7 +113,7 @@ pub fn store(image: &mut [u8], profile: Profile, address: u32, bytes: &[u8])
         // so many bytes belong to addresses below the area
         let skipped = lower(above(area.sad as usize, start), bytes.len());
         let last = skipped + (to - from);
-        bytes::copy(&bytes[skipped..last], &mut image[from..to]);
+        numbers::copy(&bytes[skipped..last], &mut image[from..to]);
         base += profile::size(area);
         i += 1;
     }

@@ -47,7 +47,7 @@ judge_reply_put y l l₁ h e =
 
 -- the first data bytes, copied over the seventeen bytes from place 19 on
 pub judge_first_put : (first l new : List ℕ) → length l ≡ 36 → length first ≡ 17
-    → new ≡ take (length first) first ++ drop (length first) (take 17 (drop 19 l))
+    → new ≡ first ++ drop (length first) (take 17 (drop 19 l))
     → take 19 l ++ (new ++ drop 17 (drop 19 l)) ≡ paste l 19 first 17
 judge_first_put first l new h k e =
     let o : 36 ≤ length l = omega arith in

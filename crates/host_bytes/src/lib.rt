@@ -93,7 +93,7 @@ fn first_in(bytes: &[u8]) -> [u8; 17]
     let mut first = [0u8; 17];
     let from = numbers::lower(19, bytes.len());
     let end = numbers::lower(36, bytes.len());
-    bytes::copy(&bytes[from..end], &mut first);
+    numbers::copy(&bytes[from..end], &mut first);
     first
 }
 
@@ -152,7 +152,7 @@ fn put_first(bytes: &mut [u8], first: [u8; 17])
     requires { length bytes.old ≡ judge_length }
     ensures { bytes.new ≡ paste bytes.old 19 first 17 }
 {
-    bytes::copy(&first, &mut bytes[19..36]);
+    numbers::copy(&first, &mut bytes[19..36]);
 }
 
 // The judge's bytes, in 36 that are lent for it; in fewer or more nothing is written.

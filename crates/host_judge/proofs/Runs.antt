@@ -98,7 +98,7 @@ copy_room f more from n h = rw (part_count from (from + n) f h, length-take) (om
 
 -- bytes copied to their place are kept there
 pub kept_copy : (f more new : List ℕ) (from n d : ℕ) → from + n ≤ length f → n ≡ min (length more) d
-    → new ≡ take (length (take n more)) (take n more) ++ drop (length (take n more)) (take (from + n - from) (drop from f))
+    → new ≡ take n more ++ drop (length (take n more)) (take (from + n - from) (drop from f))
     → take from f ++ (new ++ drop (from + n - from) (drop from f)) ≡ sets f from (take d more)
 kept_copy f more new from n d h e c =
     let l : length (take n more) ≡ n = length-take-le n more (omega arith) in

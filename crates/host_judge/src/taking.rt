@@ -114,7 +114,7 @@ fn keep(reply: Reply, more: &[u8]) -> [u8; 17]
         let n = numbers::lower(more.len(), end - at);
         let from = at - 4;
         let to = from + n;
-        bytes::copy(&more[..n], &mut first[from..to]);
+        numbers::copy(&more[..n], &mut first[from..to]);
     }
     first
 }

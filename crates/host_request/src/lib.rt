@@ -86,6 +86,7 @@ pub fn number(request: Request) -> u8
 }
 
 // Whether so many bytes may be lent beside the request.
+#[tactic(auto, unfolding(crate::specs::Request::enclosable))]
 fn is_enclosable(request: Request, count: usize) -> bool
     ensures { result ≡ enclosable request count }
 {

@@ -5,7 +5,7 @@ use Prim.Native.Nat.{ℕ, zero, suc, ◌+◌, ◌-◌, ◌≤◌, min}
 use native.Mathlib.Nat.{suc-add}
 use native.Mathlib.Omega.{arith}
 use lib.ListN.{length, take, drop, replicate, length-replicate, replicate-append-replicate}
-use lib.Seq.{take_at, take-nil, drop-nil, take-length}
+use lib.Seq.{take_at, take-nil, drop-nil}
 
 -- no more can be taken than there are
 most : (l : List ℕ) (n k : ℕ) → k ≡ min n (length l) → take k l ≡ take n l
@@ -35,12 +35,11 @@ clipped (x ∷ xs) (suc at) n from end e f =
 
 -- such a part, copied to the front of a padding, is as many bytes as there are from the place on, and what is left of the padding
 pub laid : (l pad id : List ℕ) (at n from end : ℕ) → from ≡ min at (length l) → end ≡ min (at + n) (length l)
-    → id ≡ take (length (take (end - from) (drop from l))) (take (end - from) (drop from l)) ++ drop (length (take (end - from) (drop from l))) pad
+    → id ≡ take (end - from) (drop from l) ++ drop (length (take (end - from) (drop from l))) pad
     → id ≡ take n (drop at l) ++ drop (length (take n (drop at l))) pad
 laid l pad id at n from end e f g =
     g
-    ∙ ap (λ (s : List ℕ). take (length s) s ++ drop (length s) pad) (clipped l at n from end e f)
-    ∙ ap (λ (s : List ℕ). s ++ drop (length (take n (drop at l))) pad) (take-length (take n (drop at l)))
+    ∙ ap (λ (s : List ℕ). s ++ drop (length s) pad) (clipped l at n from end e f)
 
 -- the same as the front of the list with the padding behind it, which may be longer
 padded_by : (s : List ℕ) (n m v : ℕ) → n ≤ m → take n s ++ drop (length (take n s)) (replicate n v) ≡ take n (s ++ replicate m v)

@@ -42,7 +42,7 @@ fn sixteen(image: &[u8], base: usize) -> [u8; 16]
     let mut id = [0xFFu8; 16];
     let from = lower(base, image.len());
     let end = lower(base + 16, image.len());
-    bytes::copy(&image[from..end], &mut id);
+    numbers::copy(&image[from..end], &mut id);
     id
 }
 

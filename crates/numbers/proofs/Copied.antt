@@ -11,8 +11,8 @@ pub covered : (n : ℕ) (s l : List ℕ) → length s ≤ n → length l ≤ n �
 covered n s l h k = rw (drop_of_length-le l k, take_all n s h) (append-nil s)
 
 -- by its own length, as code copies it
-pub copied : (s l : List ℕ) → length l ≡ length s → take (length s) s ++ drop (length s) l ≡ s
-copied s l e = covered (length s) s l (omega arith) (omega arith)
+pub copied : (s l : List ℕ) → length l ≡ length s → s ++ drop (length s) l ≡ s
+copied s l e = let h : length l ≤ length s = omega arith in rw (drop_of_length-le l h) (append-nil s)
 
 -- the part of a list from place lo up to, not including, hi
 module _ (lo hi : ℕ) (l : List ℕ) (h : hi ≤ length l) where
@@ -21,7 +21,7 @@ module _ (lo hi : ℕ) (l : List ℕ) (h : hi ≤ length l) where
 
   -- the list with such a part copied over
   pub pasted : lo ≤ hi → (s new : List ℕ) → length (take (hi - lo) (drop lo l)) ≡ length s
-      → new ≡ take (length s) s ++ drop (length s) (take (hi - lo) (drop lo l))
+      → new ≡ s ++ drop (length s) (take (hi - lo) (drop lo l))
       → take lo l ++ (new ++ drop (hi - lo) (drop lo l)) ≡ take lo l ++ s ++ drop hi l
   pasted o s new e f =
       let k : lo + (hi - lo) ≡ hi = omega arith in

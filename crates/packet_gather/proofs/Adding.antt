@@ -129,7 +129,7 @@ module _ (rc bs : List ℕ) (at n : ℕ) (room : at + n ≤ length rc) (there : 
       let k : at + n - at ≡ n = omega arith in
       part_count at (at + n) rc room ∙ k ∙ sym (length-take-le n bs there)
 
-  pub placed : (new : List ℕ) → new ≡ take (length (take n bs)) (take n bs) ++ drop (length (take n bs)) part
+  pub placed : (new : List ℕ) → new ≡ take n bs ++ drop (length (take n bs)) part
       → take at rc ++ (new ++ drop (at + n - at) (drop at rc)) ≡ paste rc at bs n
   placed new f = pasted at (at + n) rc room (omega arith) (take n bs) new as_many f
 

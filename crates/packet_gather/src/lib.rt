@@ -18,7 +18,7 @@ fn place(receive: &mut [u8], at: usize, from: &[u8], count: usize)
         return;
     }
     let end = at + count;
-    bytes::copy(&from[..count], &mut receive[at..end]);
+    numbers::copy(&from[..count], &mut receive[at..end]);
 }
 
 // How many bytes can come before the packet's last; none where its length has not come.

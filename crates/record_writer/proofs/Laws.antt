@@ -76,7 +76,7 @@ module _ (part w new bytes : List ℕ) (direction : ℕ) (long : length part ≡
   unfolding bytes_of
   start_length = ap length started ∙ length-append start (drop 5 part) ∙ ap (λ (n : ℕ). 5 + n) (length-drop 5 part) ∙ omega arith
 
-  pub filled : new ≡ take (length bytes) bytes ++ drop (length bytes) (take (length w - 5) (drop 5 w))
+  pub filled : new ≡ bytes ++ drop (length bytes) (take (length w - 5) (drop 5 w))
       → take 5 w ++ (new ++ drop (length w - 5) (drop 5 w)) ≡ entry direction bytes
   unfolding entry bytes_of
   filled e =
@@ -87,6 +87,6 @@ module _ (part w new bytes : List ℕ) (direction : ℕ) (long : length part ≡
       pasted 5 (length w) w (omega arith) five bytes new count e
       ∙ rw (none, front) (append-nil (start ++ bytes))
 
-  pub as_long : new ≡ take (length bytes) bytes ++ drop (length bytes) (take (length w - 5) (drop 5 w))
+  pub as_long : new ≡ bytes ++ drop (length bytes) (take (length w - 5) (drop 5 w))
       → length (take 5 w ++ (new ++ drop (length w - 5) (drop 5 w))) ≡ length part
   as_long e = ap length (filled e) ∙ entry_length direction bytes ∙ omega arith

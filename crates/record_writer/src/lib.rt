@@ -26,7 +26,7 @@ fn fill(part: &mut [u8], direction: u8, bytes: &[u8])
     part[1] = 0x4C;
     part[2] = direction;
     numbers::write_two(part, 3, count as u16);
-    bytes::copy(bytes, &mut part[5..]);
+    numbers::copy(bytes, &mut part[5..]);
 }
 
 // A record of a direction.

@@ -37,7 +37,7 @@ stage_put stage l l₁ l₂ n pulses r h e f g p q =
     v ∙ ap (λ (k : List ℕ). sets k 6 (bytes_of 4 r.left)) u ∙ rw (e, f, g) refl
 
 -- the ID, copied over the sixteen bytes from place 10 on
-pub id_put : (id d new : List ℕ) → length d ≡ 33 → length id ≡ 16 → new ≡ take (length id) id ++ drop (length id) (take 16 (drop 10 d))
+pub id_put : (id d new : List ℕ) → length d ≡ 33 → length id ≡ 16 → new ≡ id ++ drop (length id) (take 16 (drop 10 d))
     → take 10 d ++ (new ++ drop 16 (drop 10 d)) ≡ paste d 10 id 16
 id_put id d new h k e =
     let o : 26 ≤ length d = omega arith in

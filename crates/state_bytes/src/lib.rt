@@ -98,7 +98,7 @@ fn id_in(bytes: &[u8]) -> [u8; 16]
     let mut id = [0u8; 16];
     let from = lower(10, bytes.len());
     let end = lower(26, bytes.len());
-    bytes::copy(&bytes[from..end], &mut id);
+    numbers::copy(&bytes[from..end], &mut id);
     id
 }
 
@@ -183,7 +183,7 @@ fn put_id(bytes: &mut [u8], id: [u8; 16])
     requires { length bytes.old ≡ state_length }
     ensures { bytes.new ≡ paste bytes.old 10 id 16 }
 {
-    bytes::copy(&id, &mut bytes[10..26]);
+    numbers::copy(&id, &mut bytes[10..26]);
 }
 
 // Line and held count, in bytes 26 to 32.

@@ -27,7 +27,7 @@ returns-in-Inquiry c =
     let n = c in
     arm_builds c.in-Inquiry.is
     n.is_enclosable.ensures (ap not n.if-not-is_enclosable.false) n.is_over.ensures
-    n.if-is_over.false n.number.ensures (nothing_lent n.args.bytes.now)
+    n.if-is_over.false n.number-code.ensures (nothing_lent n.args.bytes.now)
     c.put.ensures
 
 pub returns-in-Erase : goal.returns-in-Erase
@@ -35,35 +35,35 @@ returns-in-Erase c =
     let n = c in
     arm_builds c.in-Erase.is
     n.is_enclosable.ensures (ap not n.if-not-is_enclosable.false) n.is_over.ensures
-    n.if-is_over.false n.number.ensures (λ lent. refl) c.put_range.ensures
+    n.if-is_over.false n.number-code.ensures (λ lent. refl) c.put_range.ensures
 
 pub returns-in-Write : goal.returns-in-Write
 returns-in-Write c =
     let n = c in
     arm_builds c.in-Write.is
     n.is_enclosable.ensures (ap not n.if-not-is_enclosable.false) n.is_over.ensures
-    n.if-is_over.false n.number.ensures (λ lent. refl) c.put_range-in-Write.ensures
+    n.if-is_over.false n.number-code.ensures (λ lent. refl) c.put_range-in-Write.ensures
 
 pub returns-in-Read : goal.returns-in-Read
 returns-in-Read c =
     let n = c in
     arm_builds c.in-Read.is
     n.is_enclosable.ensures (ap not n.if-not-is_enclosable.false) n.is_over.ensures
-    n.if-is_over.false n.number.ensures (λ lent. refl) c.put_range-in-Read.ensures
+    n.if-is_over.false n.number-code.ensures (λ lent. refl) c.put_range-in-Read.ensures
 
 pub returns-in-Authenticate : goal.returns-in-Authenticate
 returns-in-Authenticate c =
     let n = c in
     arm_builds c.in-Authenticate.is
     n.is_enclosable.ensures (ap not n.if-not-is_enclosable.false) n.is_over.ensures
-    n.if-is_over.false n.number.ensures (λ lent. refl) c.put-in-Authenticate.ensures
+    n.if-is_over.false n.number-code.ensures (λ lent. refl) c.put-in-Authenticate.ensures
 
 pub returns-in-Baud : goal.returns-in-Baud
 returns-in-Baud c =
     let n = c in
     arm_builds c.in-Baud.is
     n.is_enclosable.ensures (ap not n.if-not-is_enclosable.false) n.is_over.ensures
-    n.if-is_over.false n.number.ensures (λ lent. refl) c.put_number.ensures
+    n.if-is_over.false n.number-code.ensures (λ lent. refl) c.put_number.ensures
 
 pub returns-in-Signature : goal.returns-in-Signature
 unfolding enclosable
@@ -71,7 +71,7 @@ returns-in-Signature c =
     let n = c in
     arm_builds c.in-Signature.is
     n.is_enclosable.ensures (ap not n.if-not-is_enclosable.false) n.is_over.ensures
-    n.if-is_over.false n.number.ensures (nothing_lent n.args.bytes.now)
+    n.if-is_over.false n.number-code.ensures (nothing_lent n.args.bytes.now)
     c.put-in-Signature.ensures
 
 pub returns-in-Area : goal.returns-in-Area
@@ -79,18 +79,18 @@ returns-in-Area c =
     let n = c in
     arm_builds c.in-Area.is
     n.is_enclosable.ensures (ap not n.if-not-is_enclosable.false) n.is_over.ensures
-    n.if-is_over.false n.number.ensures (λ lent. refl) c.put_byte.ensures
+    n.if-is_over.false n.number-code.ensures (λ lent. refl) c.put_byte.ensures
 
 pub returns-in-WriteData : goal.returns-in-WriteData
 returns-in-WriteData c =
     let n = c in
     arm_builds c.in-WriteData.is
     n.is_enclosable.ensures (ap not n.if-not-is_enclosable.false) n.is_over.ensures
-    n.if-is_over.false n.number.ensures (λ lent. refl) c.put-in-WriteData.ensures
+    n.if-is_over.false n.number-code.ensures (λ lent. refl) c.put-in-WriteData.ensures
 
 pub returns-in-Next : goal.returns-in-Next
 returns-in-Next c =
     let n = c in
     arm_builds c.in-Next.is
     n.is_enclosable.ensures (ap not n.if-not-is_enclosable.false) n.is_over.ensures
-    n.if-is_over.false n.number.ensures (λ lent. refl) c.put_byte-in-Next.ensures
+    n.if-is_over.false n.number-code.ensures (λ lent. refl) c.put_byte-in-Next.ensures

@@ -3,32 +3,19 @@
 use mathlib.Core.List.{List}
 use mathlib.Core.Option.{Option}
 use mathlib.Core.Path.{◌≡◌, sym, ap, ◌∙◌}
-use Prim.Native.Nat.{ℕ, ◌-◌, ◌+◌, ◌*◌, ◌≤◌, min}
+use Prim.Native.Nat.{◌-◌}
 use native.Mathlib.Omega.{arith}
 use borrow.Author.Rules.{rules}
 use Rattle.verdict.specs.Check.{first_fault}
 use Rattle.profile.proofs.Table.{entries_start, tally_next, tally_end}
 use Rattle.profile.specs.Areas.{entries, areas_of, tally, total_of, size_of}
 use Rattle.profile.specs.declared.Area.{Area}
-use Rattle.profile.specs.declared.Profile.{Profile}
 use Rattle.profile_rules.specs.declared.Rule.{Rule}
 use Rattle.profile_rules.specs.Judged.{tallies_of, surveyed_as, survey_of}
 use Rattle.profile_rules.specs.Rules.{table_checks, config, small_config}
 use Rattle.profile_rules.proofs.Judging.{counted_all}
 use Rattle.profile_rules.proofs.Laws.{table_next, table_stops, table_end}
 use Rattle.profile_rules.proofs.survey.Goals as goal
-
-record Walked (p : Profile) (end free configs small total i : ℕ) : Type 0 where
-  in_use : end ≡ min p.noa 8
-  within : i ≤ end
-  at_most : end ≤ 8
-  fault : first_fault (table_checks 0 0 (areas_of p)) ≡ first_fault (table_checks i free (entries i (end - i) p.areas))
-  configs-are : configs + tally config (entries i (end - i) p.areas) ≡ tally config (areas_of p)
-  small-are : small + tally small_config (entries i (end - i) p.areas) ≡ tally small_config (areas_of p)
-  total-is : total + total_of (entries i (end - i) p.areas) ≡ total_of (areas_of p)
-  configs-bound : configs ≤ i
-  small-bound : small ≤ i
-  total-bound : total ≤ 4294967296 * i
 
 pub loop-i-init : goal.loop-i-init
 loop-i-init c =

@@ -51,7 +51,7 @@ returns-in-Unknown c =
     let has-field = c.has_field in
     let if2 = c.if-not-has_field in
     let is-marked = c.is_marked in
-    direction_bad a.recording.now a.at if1.false (sym has-field.ensures ∙ not-false _ if2.false) (sym is-marked.ensures ∙ not-false _ (ap not c.if-not-is_marked.false))
+    direction_bad a.recording.now a.at if1.false (sym has-field.ensures ∙ not-false _ (ap not if2.false)) (sym is-marked.ensures ∙ not-false _ (ap not c.if-not-is_marked.false))
     (sym c.has_field-2.ensures ∙ not-false _ (ap not c.if-not-has_field-2.false)) (sym c.direction_of-direction.ensures ∙ c.in-Unknown.is)
 
 pub returns-in-Known : goal.returns-in-Known
@@ -63,5 +63,5 @@ returns-in-Known c =
     let is-marked = c.is_marked in
     let if3 = c.if-not-is_marked in
     let has-field2 = c.has_field-2 in
-    c.directed_at.ensures ∙ direction_known a.recording.now a.at if1.false (sym has-field.ensures ∙ not-false _ if2.false) (sym is-marked.ensures ∙ not-false _ if3.false)
+    c.directed_at.ensures ∙ direction_known a.recording.now a.at if1.false (sym has-field.ensures ∙ not-false _ (ap not if2.false)) (sym is-marked.ensures ∙ not-false _ (ap not if3.false))
     (sym has-field2.ensures ∙ not-false _ (ap not c.if-not-has_field-2.false)) _ (sym c.direction_of-direction.ensures ∙ c.in-Known.is)
