@@ -87,9 +87,11 @@ more-edits:
 	./more-edits
 
 # exports the blank check alone, for the benchmarks
-PROVED := crates.txt $(shell find crates -path '*/must-fail*' -prune -o -type f \( -name '*.rt' -o -name '*.antt' \) -print)
+PROVED := crates.txt $(shell find crates \( -path '*/must-fail*' -o -path 'crates/*/out' \) -prune -o -type f \( -name '*.rt' -o -name '*.antt' \) -print)
 target/staticlib/libinterface_blank.a: $(PROVED)
-	rt staticlib interface_blank
+	cd crates/interface_blank_c && rt lib
+	mkdir -p target/staticlib
+	cp crates/interface_blank_c/out/libinterface_blank_c.a $@
 
 bench: library target/staticlib/libinterface_blank.a
 	$(CARGO) bench --offline -p indraveck-benchmarks
@@ -100,7 +102,7 @@ count: library target/staticlib/libinterface_blank.a
 RUST_FILES = $(shell find rust -name '*.rs' -not -path '*/target/*')
 
 fmt:
-	rt fmt
+	for crate in crates/*/; do (cd $$crate && rt fmt) || exit 1; done
 	/usr/bin/rustfmt --edition 2021 $(RUST_FILES)
 
 fmt-check:

@@ -10,9 +10,8 @@ import sys
 
 signal.signal(signal.SIGPIPE, signal.SIG_DFL)  # `tools/lines | head` ends quietly
 
-# Libraries of the kit that a crate may list. rt links std always; what reads or writes lists libc beside io or os.
-KIT = {"bytes", "check", "io", "libc", "os"}
-BESIDE = {"libc": {"io", "os"}}
+# Libraries of the kit that a crate may list. std is there always, and never listed.
+KIT = {"anyhow", "bytes", "check", "io", "thiserror"}
 
 
 def stop(message):
@@ -41,10 +40,10 @@ def short(path):
     return str(path.relative_to(ROOT)) if path.is_relative_to(ROOT) else str(path)
 
 
-def run_rt(*words):
-    """What rt says, standard output and error as one text."""
+def run_rt(crate, *words):
+    """What rt says of a crate, standard output and error as one text."""
     try:
-        done = subprocess.run(["rt", *words], cwd=ROOT, text=True, stdout=subprocess.PIPE, stderr=subprocess.STDOUT)
+        done = subprocess.run(["rt", *words], cwd=crate.folder, text=True, stdout=subprocess.PIPE, stderr=subprocess.STDOUT)
     except FileNotFoundError:
         stop("rt, the Rattle toolchain, is not on the PATH")
     return done.stdout
@@ -56,6 +55,7 @@ class Crate:
     group: str
     listed: list
     allowed: set  # listed without being named, by the note at the end of the line
+    exports: bool  # a static library: what it exports are calls of libraries, for other languages
 
     def __post_init__(self):
         self.folder = ROOT / "crates" / self.name
@@ -88,9 +88,10 @@ def read_crates():
             continue
         fresh = False
         name, _, rest = text.partition(":")
+        name, *kind = name.split()
         types = re.match(r"for the types of (.*)", note)
         allowed = set(re.findall(r"\w+", types[1])) - {"and"} if types else set()
-        crates[name.strip()] = Crate(name.strip(), " ".join(heading), rest.split(), allowed)
+        crates[name] = Crate(name, " ".join(heading), rest.split(), allowed, "staticlib" in kind)
     return crates
 
 
@@ -133,7 +134,8 @@ def imports(text):
                 yield found[1], there.strip(), (here or there).strip()
 
 
-MODULE = re.compile(r"Rattle·(\w+?)(?:·specs|·proofs)?\.(specs|proofs)\.(.+)$")
+# A module of a crate here: the crate, specs or proofs, and the file. What std and the kit have is none.
+MODULE = re.compile(r"Rattle\.(?!(?:std|core|%s)\.)(\w+)\.(specs|proofs)\.(.+)$" % "|".join(sorted(KIT)))
 # A name that stands by itself: not a projection, and of a name with dots the first part.
 NAME = re.compile(r"(?:(?<=[\s(){},;⌜⌝⟦⟧λ])|^)([^\s(){},;⌜⌝⟦⟧λ.]+)")
 
@@ -143,6 +145,17 @@ def names_in(text):
 
 
 # ---- code
+
+BROUGHT = re.compile(r"^(pub )?use ((?:\w+::)+)(?:(\w+)|\{([^{}]*)\});", re.M)
+
+
+def brought(text):
+    """(whether it is handed on, where it stands, its name) for each name of code that a file of code brings in."""
+    for found in BROUGHT.finditer(text):
+        for name in [found[3]] if found[3] else re.findall(r"\w[\w:]*", found[4]):
+            where, _, last = f"{found[2]}{name}".rpartition("::")
+            yield bool(found[1]), where, last
+
 
 @dataclasses.dataclass
 class Function:

@@ -3,7 +3,7 @@ beside what each public function asks and promises."""
 import collections
 import re
 
-from repository import MODULE, ROOT, definitions, functions, imports, names_in, pairs, short, stop
+from repository import MODULE, ROOT, brought, definitions, functions, imports, names_in, pairs, short, stop
 
 PROMISES = ROOT / "docs" / "PROMISES.md"
 BEGIN, END = "<!-- generated: tools/promises --write -->", "<!-- end -->"
@@ -33,15 +33,15 @@ class Room:
         """The names of the crate's functions that a function of it calls."""
         names = {other.name for other in self.functions}
         own = {"crate", *(path.stem for path in self.crate.code())}
-        uses = re.findall(r"^(?:pub )?use (\w+)::(\w+);", self.texts[one.path], re.M)
-        foreign = {name for owner, name in uses if owner not in own}
+        foreign = {name for _, owner, name in brought(self.texts[one.path]) if owner.split("::")[-1] not in own}
         return {name for owner, name in CALL.findall(one.body) if name in names
                 and (owner.split("::")[-1] in own if owner else name not in foreign)}
 
     def is_open(self, one):
         """Whether other crates can call a function: it stands in lib.rt, or lib.rt hands it on."""
         top = self.crate.folder / "src" / "lib.rt"
-        handed = re.search(rf"^pub (mod {one.path.stem}|use {one.path.stem}::{one.name});", self.texts.get(top, ""), re.M)
+        text = self.texts.get(top, "")
+        handed = (True, one.path.stem, one.name) in brought(text) or re.search(rf"^pub mod {one.path.stem};", text, re.M)
         return one.public and not one.inner and (one.path == top or bool(handed))
 
     def above(self, ones):
@@ -59,14 +59,14 @@ class Room:
         means = {}
         for one in self.definitions.get(path, []):
             for name in [one.name, *one.makes]:
-                means.update({part: (path, one.name) for part in name.split("_") if part})
+                means.update({part: (path, one.name) for part in name.split("◌") if part})
         for module, there, here in imports(self.texts[path]):
             where = MODULE.match(module)
             if where and (where[1], where[2]) == (self.crate.name, "specs"):
                 file = self.crate.folder / "specs" / f"{where[3].replace('.', '/')}.antt"
                 for one in self.definitions.get(file, []):
                     if there in [one.name, *one.makes]:
-                        means.update({part: (file, one.name) for part in here.split("_") if part})
+                        means.update({part: (file, one.name) for part in here.split("◌") if part})
         return {means[word] for word in words & means.keys()}
 
     def cited(self, one):
@@ -134,14 +134,8 @@ def wrong_versions(crates):
 # ---- the tables
 
 def plain(one, clause):
-    """A function's clauses without what every clause has: `x` is what was lent, `x′` what it is at the end."""
-    for text in one.clauses.get(clause, []):
-        text = re.sub(r"^(?:λ \w+\. )?⌜ ([^⌜⌝]*) ⌝$", r"\1", " ".join(text.split()))
-        text = re.sub(r"\bnow \((\w+) \.entry\)", r"\1", text)
-        text = re.sub(r"\bnow \((\w+) \.exit\)", r"\1′", text)
-        if clause == "requires":  # what is lent, before the call
-            text = re.sub(r"\bnow (\w+)", r"\1", text)
-        yield re.sub(r"\((\w+′?)\)", r"\1", text)
+    """A function's clauses as they stand, each in one line."""
+    return [" ".join(text.split()) for text in one.clauses.get(clause, [])]
 
 
 def cell(texts):
@@ -166,7 +160,7 @@ def row(one, edits):
 def rows_of(crates, edits):
     """The row of every public function of a library, by (crate, function): those of lib.rt first."""
     return {(crate.name, one.name): row(one, edits[crate.name, one.name])
-            for crate in crates.values() if not crate.is_program
+            for crate in crates.values() if not crate.is_program and not crate.exports
             for one in sorted(functions(crate), key=lambda one: (one.path.name != "lib.rt", one.path, one.line)) if one.public}
 
 

@@ -19,7 +19,7 @@ fn main() {
     println!("cargo:rerun-if-changed={}", library.display());
     if !library.is_file() {
         eprintln!(
-            "{} is not there: run `rt staticlib interface_blank` first, or set INDRAVECK_LIBRARY to its folder",
+            "{} is not there: run `make target/staticlib/libinterface_blank.a` first, or set INDRAVECK_LIBRARY to its folder",
             library.display()
         );
         exit(1);
