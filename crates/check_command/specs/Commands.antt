@@ -1,5 +1,5 @@
 -- The checks of a complete command, in order.
-use Rattle.std.specs.Prelude.{Bool, true, false, not, List, [], ◌∷◌, ◌++◌, ℕ, leb, eqb}
+use Rattle.std.specs.Prelude.{Bool, true, not, List, [], ◌∷◌, ◌++◌, ℕ, leb, eqb}
 use Rattle.verdict.specs.declared.Reason.{Reason}
 use Rattle.verdict.specs.declared.Reason.TheVariants.{UnknownCommand, WrongLength, WrongStage, NoSuchArea}
 use Rattle.verdict.specs.Check.{Check, ◌gives◌}

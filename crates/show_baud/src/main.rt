@@ -1,6 +1,7 @@
 // Prints the line setting of the known baud rates, and whether each is refused.
 #![tactic(auto)]
 
+use std::io;
 use verdict::Verdict;
 
 // Source 001: tables 23 and 24.
@@ -24,78 +25,71 @@ const EDGES: [u32; 11] = [
 const DIVIDED_ONCE: [u32; 3] = [4034, 4177, 4549];
 
 // A space, and a byte in hex.
-fn print_byte(value: u8) {
-    io::write_all(1, b" ");
-    let pair = show_common::hex(value);
-    io::write_all(1, &pair);
+fn print_byte(rt: &impl Print, value: u8) -> io::Result<()> {
+    rt.write_all(b" ")?;
+    rt.write_all(&show_common::hex(value))
 }
 
-fn print_number(value: u32) {
-    io::write_all(1, b" ");
-    io::print_decimal(1, value as u64);
+fn print_number(rt: &impl Print, value: u32) -> io::Result<()> {
+    print!(rt; " {value}")
 }
 
 // ABCS, BRR and MDDR; dashes where MDDR is unused, and for BRT 0, which has no setting.
-fn print_setting(sci: u32, brt: u32) {
+fn print_setting(rt: &impl Print, sci: u32, brt: u32) -> io::Result<()> {
     if brt == 0 {
-        io::write_all(1, b" -- -- --");
-        return;
+        return print!(rt; " -- -- --");
     }
     let line = baud::setting(sci, brt);
-    print_number(line.abcs as u32);
-    print_byte(line.brr);
+    print_number(rt, line.abcs as u32)?;
+    print_byte(rt, line.brr)?;
     if line.mddr == 0 {
-        io::write_all(1, b" --");
-        return;
+        return print!(rt; " --");
     }
-    print_byte(line.mddr);
+    print_byte(rt, line.mddr)
 }
 
-fn print_answer(answer: Verdict) {
+fn print_answer(rt: &impl Print, answer: Verdict) -> io::Result<()> {
     match answer {
-        Verdict::Granted => {
-            io::write_all(1, b" OK");
-        }
-        Verdict::Refused(reason) => {
-            print_byte(verdict::code(reason));
-        }
+        Verdict::Granted => print!(rt; " OK"),
+        Verdict::Refused(reason) => print_byte(rt, verdict::code(reason)),
     }
 }
 
 // One line.
-fn show(sci: u32, rmb: u32, brt: u32) {
-    io::print_decimal(1, sci as u64);
-    print_number(brt);
-    print_setting(sci, brt);
-    print_number(rmb);
-    print_answer(baud::check_rate(sci, rmb, brt));
-    io::write_all(1, b"\n");
+fn show(rt: &impl Print, sci: u32, rmb: u32, brt: u32) -> io::Result<()> {
+    print!(rt; "{sci}")?;
+    print_number(rt, brt)?;
+    print_setting(rt, sci, brt)?;
+    print_number(rt, rmb)?;
+    print_answer(rt, baud::check_rate(sci, rmb, brt))?;
+    println!(rt)
 }
 
 // A line for each rate of a table.
-fn show_all(sci: u32, rmb: u32, rates: &[u32]) {
-    for i in 0..rates.len() {
-        show(sci, rmb, rates[i]);
+fn show_all(rt: &impl Print, sci: u32, rmb: u32, rates: &[u32]) -> io::Result<()> {
+    for rate in rates {
+        show(rt, sci, rmb, *rate)?;
     }
+    Ok(())
 }
 
-fn main() {
-    io::write_all(1, b"SCI BRT ABCS BRR MDDR RMB answer\n");
-    show_all(60000000, 4000000, &TABLE_23);
-    show_all(24000000, 4000000, &TABLE_24);
-    show_all(100000000, 6000000, &ROWS_100_MHZ);
-    show_all(60000000, 4000000, &ROWS_60_MHZ);
-    show_all(60000000, 4000000, &EDGES);
-    show_all(60000000, 4000000, &DIVIDED_ONCE);
+fn main(rt: HostRuntime) -> io::Result<()> {
+    println!(rt; "SCI BRT ABCS BRR MDDR RMB answer")?;
+    show_all(&rt, 60000000, 4000000, &TABLE_23)?;
+    show_all(&rt, 24000000, 4000000, &TABLE_24)?;
+    show_all(&rt, 100000000, 6000000, &ROWS_100_MHZ)?;
+    show_all(&rt, 60000000, 4000000, &ROWS_60_MHZ)?;
+    show_all(&rt, 60000000, 4000000, &EDGES)?;
+    show_all(&rt, 60000000, 4000000, &DIVIDED_ONCE)?;
     // RMB itself, and one below it.
-    show(60000000, 9600, 9600);
-    show(60000000, 9599, 9600);
+    show(&rt, 60000000, 9600, 9600)?;
+    show(&rt, 60000000, 9599, 9600)?;
     // The rate after a reset, under other clocks.
-    show(1, 4000000, 9600);
-    show(307199, 4000000, 9600);
-    show(307200, 4000000, 9600);
-    show(307201, 4000000, 9600);
-    show(20000000, 4000000, 9600);
-    show(24000000, 4000000, 9600);
-    show(4294967295, 4000000, 9600);
+    show(&rt, 1, 4000000, 9600)?;
+    show(&rt, 307199, 4000000, 9600)?;
+    show(&rt, 307200, 4000000, 9600)?;
+    show(&rt, 307201, 4000000, 9600)?;
+    show(&rt, 20000000, 4000000, 9600)?;
+    show(&rt, 24000000, 4000000, 9600)?;
+    show(&rt, 4294967295, 4000000, 9600)
 }

@@ -4,204 +4,220 @@
 
 use host_judge::{Judge, Judgement};
 use host_request::Request;
+use std::io;
 use verdict::{Reason, Verdict};
 
-fn print(words: &[u8]) {
-    io::write_all(1, words);
+fn print(rt: &impl Print, words: &str) -> io::Result<()> {
+    rt.print(words)
 }
 
-fn print_title(words: &[u8]) {
-    print(b"== ");
-    print(words);
-    print(b"\n");
+fn print_title(rt: &impl Print, words: &str) -> io::Result<()> {
+    println!(rt; "== {words}")
 }
 
-fn print_number(words: &[u8], n: usize) {
-    print(words);
-    io::print_decimal(1, n as u64);
+fn print_number(rt: &impl Print, words: &str, n: usize) -> io::Result<()> {
+    print!(rt; "{words}{n}")
 }
 
-fn print_byte(byte: u8) {
-    let pair = show_common::hex(byte);
-    print(&pair);
+fn print_byte(rt: &impl Print, byte: u8) -> io::Result<()> {
+    rt.write_all(&show_common::hex(byte))
 }
 
 // Bytes in hex, with a space between them.
-fn print_bytes(bytes: &[u8]) {
-    for i in 0..bytes.len() {
+fn print_bytes(rt: &impl Print, bytes: &[u8]) -> io::Result<()> {
+    for (i, byte) in bytes.iter().enumerate() {
         if 0 < i {
-            print(b" ");
+            print(rt, " ")?;
         }
-        print_byte(bytes[i]);
+        print_byte(rt, *byte)?;
     }
+    Ok(())
 }
 
 // All of the bytes, or of many the first eight and the last two.
-fn print_some(bytes: &[u8]) {
+fn print_some(rt: &impl Print, bytes: &[u8]) -> io::Result<()> {
     let n = bytes.len();
     if n == 0 {
-        print(b"no bytes");
-        return;
+        return print(rt, "no bytes");
     }
     if n <= 24 {
-        print_bytes(bytes);
-        return;
+        return print_bytes(rt, bytes);
     }
     let end = n - 2;
-    print_bytes(&bytes[..8]);
-    print(b" .. ");
-    print_bytes(&bytes[end..]);
-    print_number(b" (", n);
-    print(b" bytes)");
+    print_bytes(rt, &bytes[..8])?;
+    print(rt, " .. ")?;
+    print_bytes(rt, &bytes[end..])?;
+    print_number(rt, " (", n)?;
+    print(rt, " bytes)")
 }
 
-fn print_range(words: &[u8], sad: u32, ead: u32) {
-    print(words);
-    print_number(b" ", sad as usize);
-    print_number(b" to ", ead as usize);
+fn print_range(rt: &impl Print, words: &str, sad: u32, ead: u32) -> io::Result<()> {
+    print(rt, words)?;
+    print_number(rt, " ", sad as usize)?;
+    print_number(rt, " to ", ead as usize)
 }
 
-fn print_request(request: Request) {
+fn print_request(rt: &impl Print, request: Request) -> io::Result<()> {
     match request {
-        Request::Inquiry => print(b"inquiry"),
-        Request::Erase(sad, ead) => print_range(b"erase", sad, ead),
-        Request::Write(sad, ead) => print_range(b"write", sad, ead),
-        Request::Read(sad, ead) => print_range(b"read", sad, ead),
-        Request::Authenticate => print(b"authenticate"),
-        Request::Baud(brt) => print_number(b"baud ", brt as usize),
-        Request::Signature => print(b"signature"),
-        Request::Area(n) => print_number(b"area ", n as usize),
-        Request::WriteData => print(b"write data"),
-        Request::Next(left) => print_number(b"next, left ", left as usize),
+        Request::Inquiry => print(rt, "inquiry"),
+        Request::Erase(sad, ead) => print_range(rt, "erase", sad, ead),
+        Request::Write(sad, ead) => print_range(rt, "write", sad, ead),
+        Request::Read(sad, ead) => print_range(rt, "read", sad, ead),
+        Request::Authenticate => print(rt, "authenticate"),
+        Request::Baud(brt) => print_number(rt, "baud ", brt as usize),
+        Request::Signature => print(rt, "signature"),
+        Request::Area(n) => print_number(rt, "area ", n as usize),
+        Request::WriteData => print(rt, "write data"),
+        Request::Next(left) => print_number(rt, "next, left ", left as usize),
     }
 }
 
-fn print_judgement(judgement: Judgement) {
+fn print_judgement(rt: &impl Print, judgement: Judgement) -> io::Result<()> {
     match judgement {
-        Judgement::Unanswered => print(b"unanswered"),
-        Judgement::Passed => print(b"passed"),
-        Judgement::WrongReply => print(b"wrong reply"),
+        Judgement::Unanswered => print(rt, "unanswered")?,
+        Judgement::Passed => print(rt, "passed")?,
+        Judgement::WrongReply => print(rt, "wrong reply")?,
         Judgement::Refused(code) => {
-            print(b"refused ");
-            print_byte(code);
-            print(b"h");
+            print(rt, "refused ")?;
+            print_byte(rt, code)?;
+            print(rt, "h")?;
         }
     }
-    print_number(b" ", host_judge::judgement_number(judgement) as usize);
+    print_number(rt, " ", host_judge::judgement_number(judgement) as usize)
 }
 
-fn print_taken(judge: Judge, count: usize, from: usize, to: usize) {
+fn print_taken(
+    rt: &impl Print,
+    judge: Judge,
+    count: usize,
+    from: usize,
+    to: usize,
+) -> io::Result<()> {
     let judgement = judge.judgement;
-    print_judgement(judgement);
-    print_number(b", took ", count);
-    print_number(b", data ", from);
-    print_number(b"..", to);
+    print_judgement(rt, judgement)?;
+    print_number(rt, ", took ", count)?;
+    print_number(rt, ", data ", from)?;
+    print_number(rt, "..", to)
 }
 
 // What some bytes say to a request.
-fn hear(request: Request, bytes: &[u8]) {
-    print_request(request);
-    print(b" <- ");
-    print_some(bytes);
-    print(b": ");
+fn hear(rt: &impl Print, request: Request, bytes: &[u8]) -> io::Result<()> {
+    print_request(rt, request)?;
+    print(rt, " <- ")?;
+    print_some(rt, bytes)?;
+    print(rt, ": ")?;
     let taken = host_judge::take(host_judge::begin(request), bytes);
     let judge = taken.judge;
-    print_taken(judge, taken.count, taken.from, taken.to);
-    print(b"\n");
+    print_taken(rt, judge, taken.count, taken.from, taken.to)?;
+    print(rt, "\n")
 }
 
 // The replies of the line examples, and those of a device that lost step.
-fn hear_lines() {
-    print_title(b"replies");
+fn hear_lines(rt: &impl Print) -> io::Result<()> {
+    print_title(rt, "replies")?;
     hear(
+        rt,
         Request::Signature,
         b"\x81\x00\x0D\x3A\x03\x93\x87\x00\x00\x3D\x09\x00\x02\x01\x01\x00\x52\x03",
-    );
-    hear(Request::Inquiry, b"\x81\x00\x02\x00\x00\xFE\x03");
-    hear(Request::Inquiry, b"\x81\x00\x02\x80\xC3\xBB\x03");
-    hear(Request::Inquiry, b"\x81\x00\x02\x80\xC2\xBC\x03");
-    hear(Request::Inquiry, b"\x81\x00\x02\x80\xC1\xBD\x03");
+    )?;
+    hear(rt, Request::Inquiry, b"\x81\x00\x02\x00\x00\xFE\x03")?;
+    hear(rt, Request::Inquiry, b"\x81\x00\x02\x80\xC3\xBB\x03")?;
+    hear(rt, Request::Inquiry, b"\x81\x00\x02\x80\xC2\xBC\x03")?;
+    hear(rt, Request::Inquiry, b"\x81\x00\x02\x80\xC1\xBD\x03")?;
     hear(
+        rt,
         Request::Erase(0x4000, 0x7FFF),
         b"\x81\x00\x02\x12\x00\xEC\x03",
-    );
+    )?;
     hear(
+        rt,
         Request::Erase(0x4000, 0x7FFF),
         b"\x81\x00\x02\x80\xC1\xBD\x03",
-    );
-    hear(Request::Area(2), b"\x81\x00\x02\xBB\xD0\x73\x03");
-    hear(Request::WriteData, b"\x81\x00\x02\x93\xE2\x89\x03");
-    hear(Request::WriteData, b"\x81\x00\x02\x95\xC1\xA8\x03");
-    hear(Request::Next(1), b"\x81\x00\x02\x93\xC1\xAA\x03");
-    hear(Request::Next(1), b"\x81\x00\x02\x15\x00\xE9\x03");
-    hear(Request::Read(0, 0), b"\x81\x00\x02\x15\xD0\x19\x03");
-    hear(Request::Read(1, 0), b"\x81\x00\x01\x15\xEA\x03");
+    )?;
+    hear(rt, Request::Area(2), b"\x81\x00\x02\xBB\xD0\x73\x03")?;
+    hear(rt, Request::WriteData, b"\x81\x00\x02\x93\xE2\x89\x03")?;
+    hear(rt, Request::WriteData, b"\x81\x00\x02\x95\xC1\xA8\x03")?;
+    hear(rt, Request::Next(1), b"\x81\x00\x02\x93\xC1\xAA\x03")?;
+    hear(rt, Request::Next(1), b"\x81\x00\x02\x15\x00\xE9\x03")?;
+    hear(rt, Request::Read(0, 0), b"\x81\x00\x02\x15\xD0\x19\x03")?;
+    hear(rt, Request::Read(1, 0), b"\x81\x00\x01\x15\xEA\x03")
 }
 
 // Noise, several packets, lengths.
-fn hear_noise() {
-    print_title(b"noise and lengths");
-    hear(Request::Inquiry, b"");
-    hear(Request::Inquiry, b"\x00\xC3\x01\x00\x01\x00\xFF\x03");
-    hear(Request::Inquiry, b"\x00\xC3\x81\x00\x02\x00\x00\xFE\x03");
+fn hear_noise(rt: &impl Print) -> io::Result<()> {
+    print_title(rt, "noise and lengths")?;
+    hear(rt, Request::Inquiry, b"")?;
+    hear(rt, Request::Inquiry, b"\x00\xC3\x01\x00\x01\x00\xFF\x03")?;
     hear(
+        rt,
+        Request::Inquiry,
+        b"\x00\xC3\x81\x00\x02\x00\x00\xFE\x03",
+    )?;
+    hear(
+        rt,
         Request::Inquiry,
         b"\x81\x00\x02\x00\x00\xFE\x03\x81\x00\x02\x00\x00\xFE\x03",
-    );
+    )?;
     hear(
+        rt,
         Request::Inquiry,
         b"\x81\x00\x02\x12\x00\xEC\x03\x81\x00\x02\x00\x00\xFE\x03",
-    );
-    hear(Request::Inquiry, b"\x81\x81\x00\x02\x00\x00\xFE\x03");
-    hear(Request::Inquiry, b"\x81\x00\x00\x03");
-    hear(Request::Inquiry, b"\x81\x04\x02\x03");
-    hear(Request::Inquiry, b"\x81\x04\x01\x00\x00\xFE\x03");
-    hear(Request::Inquiry, b"\x81\xFF");
-    hear(Request::Inquiry, b"\x81\x00\x01\x00\xFF\x03");
-    hear(Request::Read(0, 1), b"\x81\x00\x02\x15\x00\xE9\x03");
-    hear(Request::Read(0, 1), b"\x81\x00\x04\x15\x00\x00\x00\xE7\x03");
+    )?;
+    hear(rt, Request::Inquiry, b"\x81\x81\x00\x02\x00\x00\xFE\x03")?;
+    hear(rt, Request::Inquiry, b"\x81\x00\x00\x03")?;
+    hear(rt, Request::Inquiry, b"\x81\x04\x02\x03")?;
+    hear(rt, Request::Inquiry, b"\x81\x04\x01\x00\x00\xFE\x03")?;
+    hear(rt, Request::Inquiry, b"\x81\xFF")?;
+    hear(rt, Request::Inquiry, b"\x81\x00\x01\x00\xFF\x03")?;
+    hear(rt, Request::Read(0, 1), b"\x81\x00\x02\x15\x00\xE9\x03")?;
+    hear(
+        rt,
+        Request::Read(0, 1),
+        b"\x81\x00\x04\x15\x00\x00\x00\xE7\x03",
+    )
 }
 
 // A reply cut in two: what the judge says behind each part.
-fn hear_in_two(request: Request, bytes: &[u8], at: usize) {
+fn hear_in_two(rt: &impl Print, request: Request, bytes: &[u8], at: usize) -> io::Result<()> {
     let cut = numbers::lower(at, bytes.len());
-    print_number(b"cut at ", cut);
-    print(b": ");
+    print_number(rt, "cut at ", cut)?;
+    print(rt, ": ")?;
     let first = host_judge::take(host_judge::begin(request), &bytes[..cut]);
     let between = first.judge;
-    print_taken(between, first.count, first.from, first.to);
-    print(b"; ");
+    print_taken(rt, between, first.count, first.from, first.to)?;
+    print(rt, "; ")?;
     let second = host_judge::take(between, &bytes[cut..]);
     let behind = second.judge;
-    print_taken(behind, second.count, second.from, second.to);
-    print(b"\n");
+    print_taken(rt, behind, second.count, second.from, second.to)?;
+    print(rt, "\n")
 }
 
 // At every place, with a byte before it and one behind.
-fn hear_cuts() {
+fn hear_cuts(rt: &impl Print) -> io::Result<()> {
     let bytes = b"\x00\x81\x00\x05\x15\x11\x22\x33\x44\x3C\x03\x00";
-    print_title(b"cuts of a read's reply, 4 bytes");
+    print_title(rt, "cuts of a read's reply, 4 bytes")?;
     for at in 0..13 {
-        hear_in_two(Request::Read(0x100, 0x103), bytes, at);
+        hear_in_two(rt, Request::Read(0x100, 0x103), bytes, at)?;
     }
+    Ok(())
 }
 
 // A read's longest packet, SUM worked out so that all bytes but the first and the last add to 0.
-fn hear_longest() {
+fn hear_longest(rt: &impl Print) -> io::Result<()> {
     let data = [0x01u8; 1024];
     let mut reply = [0u8; 1030];
-    print_title(b"the longest reply");
+    print_title(rt, "the longest reply")?;
     packet_reply::put_data(&mut reply, 0x15, &data);
-    hear(Request::Read(0, 0x3FF), &reply);
-    hear(Request::Read(0, 0x400), &reply);
-    hear(Request::Next(1024), &reply);
-    hear(Request::Next(1023), &reply);
-    hear(Request::Read(0, 0xFFFF_FFFF), &reply);
-    hear_in_two(Request::Next(0xFFFF_FFFF), &reply, 515);
-    hear_in_two(Request::Next(0xFFFF_FFFF), &reply, 1028);
-    hear_in_two(Request::Next(0xFFFF_FFFF), &reply, 1029);
+    hear(rt, Request::Read(0, 0x3FF), &reply)?;
+    hear(rt, Request::Read(0, 0x400), &reply)?;
+    hear(rt, Request::Next(1024), &reply)?;
+    hear(rt, Request::Next(1023), &reply)?;
+    hear(rt, Request::Read(0, 0xFFFF_FFFF), &reply)?;
+    hear_in_two(rt, Request::Next(0xFFFF_FFFF), &reply, 515)?;
+    hear_in_two(rt, Request::Next(0xFFFF_FFFF), &reply, 1028)?;
+    hear_in_two(rt, Request::Next(0xFFFF_FFFF), &reply, 1029)?;
     reply[600] = 2;
-    hear(Request::Next(0xFFFF_FFFF), &reply);
+    hear(rt, Request::Next(0xFFFF_FFFF), &reply)
 }
 
 // How many replies say each of the four.
@@ -248,76 +264,96 @@ fn count_changes(request: Request, reply: &mut [u8], at: usize) -> Counts {
     counts
 }
 
-fn print_counts(counts: Counts) {
-    print_number(b" ", counts.unanswered as usize);
-    print_number(b" ", counts.passed as usize);
-    print_number(b" ", counts.refused as usize);
-    print_number(b" ", counts.wrong as usize);
-    print(b"\n");
+fn print_counts(rt: &impl Print, counts: Counts) -> io::Result<()> {
+    print_number(rt, " ", counts.unanswered as usize)?;
+    print_number(rt, " ", counts.passed as usize)?;
+    print_number(rt, " ", counts.refused as usize)?;
+    print_number(rt, " ", counts.wrong as usize)?;
+    print(rt, "\n")
 }
 
 // A line for each byte of a reply.
-fn count_reply(name: &[u8], kind: &[u8], request: Request, reply: &mut [u8]) {
+fn count_reply(
+    rt: &impl Print,
+    name: &str,
+    kind: &str,
+    request: Request,
+    reply: &mut [u8],
+) -> io::Result<()> {
     for at in 0..reply.len() {
         let counts = count_changes(request, reply, at);
-        print(name);
-        print(kind);
-        print_number(b" ", at);
-        print_counts(counts);
+        print(rt, name)?;
+        print(rt, kind)?;
+        print_number(rt, " ", at)?;
+        print_counts(rt, counts)?;
     }
+    Ok(())
 }
 
 // Of a reply at the front of a buffer.
-fn count_front(name: &[u8], kind: &[u8], request: Request, buffer: &mut [u8], count: usize) {
+fn count_front(
+    rt: &impl Print,
+    name: &str,
+    kind: &str,
+    request: Request,
+    buffer: &mut [u8],
+    count: usize,
+) -> io::Result<()> {
     let end = numbers::lower(count, buffer.len());
-    count_reply(name, kind, request, &mut buffer[..end]);
+    count_reply(rt, name, kind, request, &mut buffer[..end])
 }
 
 // What grants the request, and D0h.
-fn count_request(name: &[u8], request: Request, data: &[u8]) {
+fn count_request(rt: &impl Print, name: &str, request: Request, data: &[u8]) -> io::Result<()> {
     let mut reply = [0u8; 1030];
     let code = host_request::number(request);
     let granted = packet_reply::put_data(&mut reply, code, data);
-    count_front(name, b" granted", request, &mut reply, granted);
+    count_front(rt, name, " granted", request, &mut reply, granted)?;
     let refused = packet_reply::put_status(&mut reply, code, Verdict::Refused(Reason::Reversed));
-    count_front(name, b" refused", request, &mut reply, refused);
+    count_front(rt, name, " refused", request, &mut reply, refused)
 }
 
-fn count_first() {
-    count_request(b"inquiry", Request::Inquiry, b"\x00");
-    count_request(b"erase", Request::Erase(0, 0x1FFF), b"\x00");
-    count_request(b"write", Request::Write(0, 0x7F), b"\x00");
-    count_request(b"read1", Request::Read(0, 0), b"\x00");
+fn count_first(rt: &impl Print) -> io::Result<()> {
+    count_request(rt, "inquiry", Request::Inquiry, b"\x00")?;
+    count_request(rt, "erase", Request::Erase(0, 0x1FFF), b"\x00")?;
+    count_request(rt, "write", Request::Write(0, 0x7F), b"\x00")?;
+    count_request(rt, "read1", Request::Read(0, 0), b"\x00")?;
     count_request(
-        b"read16",
+        rt,
+        "read16",
         Request::Read(0, 15),
         b"\x00\x01\x02\x03\x04\x05\x06\x07\x08\x09\x0A\x0B\x0C\x0D\x0E\x0F",
-    );
-    count_request(b"authenticate", Request::Authenticate, b"\x00");
+    )?;
+    count_request(rt, "authenticate", Request::Authenticate, b"\x00")
 }
 
-fn count_second() {
-    count_request(b"baud", Request::Baud(9600), b"\x00");
+fn count_second(rt: &impl Print) -> io::Result<()> {
+    count_request(rt, "baud", Request::Baud(9600), b"\x00")?;
     count_request(
-        b"signature",
+        rt,
+        "signature",
         Request::Signature,
         b"\x03\x93\x87\x00\x00\x3D\x09\x00\x02\x01\x01\x00",
-    );
+    )?;
     count_request(
-        b"area",
+        rt,
+        "area",
         Request::Area(1),
         b"\x02\x01\x00\x00\x00\x01\x00\x00\xFF\x00\x00\x00\x00\x00\x00\x00\x10",
-    );
-    count_request(b"write-data", Request::WriteData, b"\x00");
-    count_request(b"next", Request::Next(3), b"\xAA\xBB\xCC");
+    )?;
+    count_request(rt, "write-data", Request::WriteData, b"\x00")?;
+    count_request(rt, "next", Request::Next(3), b"\xAA\xBB\xCC")
 }
 
-fn main() {
-    hear_lines();
-    hear_noise();
-    hear_cuts();
-    hear_longest();
-    print_title(b"each byte changed to every value: unanswered passed refused wrong");
-    count_first();
-    count_second();
+fn main(rt: HostRuntime) -> io::Result<()> {
+    hear_lines(&rt)?;
+    hear_noise(&rt)?;
+    hear_cuts(&rt)?;
+    hear_longest(&rt)?;
+    print_title(
+        &rt,
+        "each byte changed to every value: unanswered passed refused wrong",
+    )?;
+    count_first(&rt)?;
+    count_second(&rt)
 }

@@ -7,99 +7,95 @@ ghost use Rattle.recording.specs.Recording.{Inside};
 
 use record_writer::Written;
 use recording::{Direction, Fault, Found, Part};
+use std::io;
 
 // The greatest place there is.
 const GREATEST: usize = 0xFFFF_FFFF_FFFF_FFFF;
 
-fn print(words: &[u8]) {
-    io::write_all(1, words);
+fn print(rt: &impl Print, words: &str) -> io::Result<()> {
+    rt.print(words)
 }
 
-fn print_title(words: &[u8]) {
-    print(b"== ");
-    print(words);
-    print(b"\n");
+fn print_title(rt: &impl Print, words: &str) -> io::Result<()> {
+    println!(rt; "== {words}")
 }
 
-fn print_number(words: &[u8], n: usize) {
-    print(words);
-    io::print_decimal(1, n as u64);
+fn print_number(rt: &impl Print, words: &str, n: usize) -> io::Result<()> {
+    print!(rt; "{words}{n}")
 }
 
-fn print_byte(byte: u8) {
-    let pair = show_common::hex(byte);
-    print(&pair);
+fn print_byte(rt: &impl Print, byte: u8) -> io::Result<()> {
+    rt.write_all(&show_common::hex(byte))
 }
 
-fn print_direction(direction: u8) {
-    print_byte(direction);
-    print(b"h");
+fn print_direction(rt: &impl Print, direction: u8) -> io::Result<()> {
+    print_byte(rt, direction)?;
+    print(rt, "h")
 }
 
 // Bytes in hex, with a space between them.
-fn print_bytes(bytes: &[u8]) {
-    for i in 0..bytes.len() {
+fn print_bytes(rt: &impl Print, bytes: &[u8]) -> io::Result<()> {
+    for (i, byte) in bytes.iter().enumerate() {
         if 0 < i {
-            print(b" ");
+            print(rt, " ")?;
         }
-        print_byte(bytes[i]);
+        print_byte(rt, *byte)?;
     }
+    Ok(())
 }
 
 // All of the bytes, or of many the first eight and the last two.
-fn print_some(bytes: &[u8]) {
+fn print_some(rt: &impl Print, bytes: &[u8]) -> io::Result<()> {
     let n = bytes.len();
     if n == 0 {
-        print(b"no bytes");
-        return;
+        return print(rt, "no bytes");
     }
     if n <= 24 {
-        print_bytes(bytes);
-        return;
+        return print_bytes(rt, bytes);
     }
     let end = n - 2;
-    print_bytes(&bytes[..8]);
-    print(b" .. ");
-    print_bytes(&bytes[end..]);
-    print_number(b" (", n);
-    print(b" bytes)");
+    print_bytes(rt, &bytes[..8])?;
+    print(rt, " .. ")?;
+    print_bytes(rt, &bytes[end..])?;
+    print_number(rt, " (", n)?;
+    print(rt, " bytes)")
 }
 
-fn print_fault(fault: Fault) {
+fn print_fault(rt: &impl Print, fault: Fault) -> io::Result<()> {
     match fault {
-        Fault::BadMark => print(b"bad mark"),
-        Fault::BadDirection => print(b"bad direction"),
-        Fault::BadLength => print(b"bad length"),
-        Fault::CutShort => print(b"cut short"),
-        Fault::NoRoom => print(b"no room"),
+        Fault::BadMark => print(rt, "bad mark")?,
+        Fault::BadDirection => print(rt, "bad direction")?,
+        Fault::BadLength => print(rt, "bad length")?,
+        Fault::CutShort => print(rt, "cut short")?,
+        Fault::NoRoom => print(rt, "no room")?,
     }
-    print_number(b" ", recording::fault_number(fault) as usize);
+    print_number(rt, " ", recording::fault_number(fault) as usize)
 }
 
-fn print_record(direction: Direction, part: Part) {
+fn print_record(rt: &impl Print, direction: Direction, part: Part) -> io::Result<()> {
     match direction {
-        Direction::Host => print(b"host"),
-        Direction::Device => print(b"device"),
-        Direction::Reset => print(b"reset"),
+        Direction::Host => print(rt, "host")?,
+        Direction::Device => print(rt, "device")?,
+        Direction::Reset => print(rt, "reset")?,
     }
-    print(b" record ");
-    print_direction(recording::direction_number(direction));
-    print_number(b", ", part.from);
-    print_number(b"..", part.to);
+    print(rt, " record ")?;
+    print_direction(rt, recording::direction_number(direction))?;
+    print_number(rt, ", ", part.from)?;
+    print_number(rt, "..", part.to)
 }
 
-fn print_found(found: Found) {
+fn print_found(rt: &impl Print, found: Found) -> io::Result<()> {
     match found {
-        Found::Is(direction, part) => print_record(direction, part),
-        Found::End => print_number(b"end ", recording::found_number(found) as usize),
-        Found::Refused(fault) => print_fault(fault),
+        Found::Is(direction, part) => print_record(rt, direction, part),
+        Found::End => print_number(rt, "end ", recording::found_number(found) as usize),
+        Found::Refused(fault) => print_fault(rt, fault),
     }
 }
 
-fn print_written(written: Written) {
+fn print_written(rt: &impl Print, written: Written) -> io::Result<()> {
     match written {
-        Written::Behind(place) => print_number(b"written, place ", place),
-        Written::Refused(fault) => print_fault(fault),
+        Written::Behind(place) => print_number(rt, "written, place ", place),
+        Written::Refused(fault) => print_fault(rt, fault),
     }
 }
 
@@ -126,41 +122,44 @@ fn behind_found(found: Found, at: usize) -> usize {
 }
 
 // One line; where to read on.
-fn read(recording: &[u8], at: usize) -> usize {
-    print_some(recording);
-    print_number(b" at ", at);
-    print(b": ");
+fn read(rt: &impl Print, recording: &[u8], at: usize) -> io::Result<usize> {
+    print_some(rt, recording)?;
+    print_number(rt, " at ", at)?;
+    print(rt, ": ")?;
     let found = recording::record_at(recording, at);
-    print_found(found);
-    print(b"\n");
-    behind_found(found, at)
+    print_found(rt, found)?;
+    print(rt, "\n")?;
+    Ok(behind_found(found, at))
 }
 
 // None of the bytes, one more each time, and all of them.
-fn read_cuts(recording: &[u8]) {
+fn read_cuts(rt: &impl Print, recording: &[u8]) -> io::Result<()> {
     for n in 0..=recording.len() {
-        read(&recording[..n], 0);
+        read(rt, &recording[..n], 0)?;
     }
+    Ok(())
 }
 
 // From each place up to the last, and from the greatest that there is.
-fn read_places(recording: &[u8], last: usize) {
+fn read_places(rt: &impl Print, recording: &[u8], last: usize) -> io::Result<()> {
     for at in 0..=last {
-        read(recording, at);
+        read(rt, recording, at)?;
     }
-    read(recording, GREATEST);
+    read(rt, recording, GREATEST)?;
+    Ok(())
 }
 
 // Three records, and what stands behind them.
-fn read_three(recording: &[u8]) {
-    let second = read(recording, 0);
-    let third = read(recording, second);
-    let end = read(recording, third);
-    read(recording, end);
+fn read_three(rt: &impl Print, recording: &[u8]) -> io::Result<()> {
+    let second = read(rt, recording, 0)?;
+    let third = read(rt, recording, second)?;
+    let end = read(rt, recording, third)?;
+    read(rt, recording, end)?;
+    Ok(())
 }
 
 // So many bytes, with a head that says this direction and length.
-fn read_long(direction: u8, count: u16, size: usize)
+fn read_long(rt: &impl Print, direction: u8, count: u16, size: usize) -> io::Result<()>
     requires { size ≤ 1036 }
 {
     let mut recording = counting();
@@ -168,19 +167,20 @@ fn read_long(direction: u8, count: u16, size: usize)
     recording[1] = 0x4C;
     recording[2] = direction;
     numbers::write_two(&mut recording, 3, count);
-    read(&recording[..size], 0);
+    read(rt, &recording[..size], 0)?;
+    Ok(())
 }
 
 // The lengths on both sides of each limit: one byte short, whole, and with a byte behind.
-fn read_lengths(direction: u8) {
-    read_long(direction, 0, 5);
-    read_long(direction, 1, 5);
-    read_long(direction, 1, 6);
-    read_long(direction, 1, 7);
-    read_long(direction, 1030, 1034);
-    read_long(direction, 1030, 1035);
-    read_long(direction, 1030, 1036);
-    read_long(direction, 1031, 1036);
+fn read_lengths(rt: &impl Print, direction: u8) -> io::Result<()> {
+    read_long(rt, direction, 0, 5)?;
+    read_long(rt, direction, 1, 5)?;
+    read_long(rt, direction, 1, 6)?;
+    read_long(rt, direction, 1, 7)?;
+    read_long(rt, direction, 1030, 1034)?;
+    read_long(rt, direction, 1030, 1035)?;
+    read_long(rt, direction, 1030, 1036)?;
+    read_long(rt, direction, 1031, 1036)
 }
 
 // The place behind a record that was written; without one, the place itself.
@@ -192,51 +192,65 @@ fn behind_written(written: Written, at: usize) -> usize {
 }
 
 // One line; where to write on.
-fn write(buffer: &mut [u8], at: usize, direction: u8, bytes: &[u8]) -> usize {
-    print_direction(direction);
-    print(b" with ");
-    print_some(bytes);
-    print_number(b" into a buffer of ", buffer.len());
-    print_number(b" at ", at);
-    print(b": ");
+fn write(
+    rt: &impl Print,
+    buffer: &mut [u8],
+    at: usize,
+    direction: u8,
+    bytes: &[u8],
+) -> io::Result<usize> {
+    print_direction(rt, direction)?;
+    print(rt, " with ")?;
+    print_some(rt, bytes)?;
+    print_number(rt, " into a buffer of ", buffer.len())?;
+    print_number(rt, " at ", at)?;
+    print(rt, ": ")?;
     let written = record_writer::write_record(buffer, at, direction, bytes);
-    print_written(written);
-    print(b"; ");
-    print_some(buffer);
-    print(b"\n");
-    behind_written(written, at)
+    print_written(rt, written)?;
+    print(rt, "; ")?;
+    print_some(rt, buffer)?;
+    print(rt, "\n")?;
+    Ok(behind_written(written, at))
 }
 
 // Into a new buffer.
-fn write_new(size: usize, at: usize, direction: u8, bytes: &[u8])
+fn write_new(rt: &impl Print, size: usize, at: usize, direction: u8, bytes: &[u8]) -> io::Result<()>
     requires { size ≤ 1036 }
 {
     let mut buffer = counting();
-    write(&mut buffer[..size], at, direction, bytes);
+    write(rt, &mut buffer[..size], at, direction, bytes)?;
+    Ok(())
 }
 
 // A record of so many bytes.
-fn write_long(size: usize, at: usize, direction: u8, count: usize)
+fn write_long(
+    rt: &impl Print,
+    size: usize,
+    at: usize,
+    direction: u8,
+    count: usize,
+) -> io::Result<()>
     requires { (size ≤ 1036) × (count ≤ 1036) }
 {
     let bytes = counting();
-    write_new(size, at, direction, &bytes[..count]);
+    write_new(rt, size, at, direction, &bytes[..count])
 }
 
 // Into buffers of no byte up to eight.
-fn write_sizes(direction: u8, bytes: &[u8]) {
+fn write_sizes(rt: &impl Print, direction: u8, bytes: &[u8]) -> io::Result<()> {
     for size in 0..=8usize {
-        write_new(size, 0, direction, bytes);
+        write_new(rt, size, 0, direction, bytes)?;
     }
+    Ok(())
 }
 
 // At each place of a buffer, at its end and behind it, and at two places so great that a sum would wrap.
-fn write_places(direction: u8, bytes: &[u8]) {
+fn write_places(rt: &impl Print, direction: u8, bytes: &[u8]) -> io::Result<()> {
     for at in 0..=9usize {
-        write_new(8, at, direction, bytes);
+        write_new(rt, 8, at, direction, bytes)?;
     }
-    write_new(8, GREATEST - 5, direction, bytes);
-    write_new(8, GREATEST, direction, bytes);
+    write_new(rt, 8, GREATEST - 5, direction, bytes)?;
+    write_new(rt, 8, GREATEST, direction, bytes)
 }
 
 // Whether what was found is a record of these bytes.
@@ -254,136 +268,154 @@ fn holds(recording: &[u8], found: Found, bytes: &[u8]) -> bool
 }
 
 // A record at the front of a line, read back, and what stands behind it.
-fn write_and_read(line: &mut [u8], direction: u8, bytes: &[u8]) {
-    write(line, 0, direction, bytes);
-    let end = read(line, 0);
-    read(line, end);
+fn write_and_read(rt: &impl Print, line: &mut [u8], direction: u8, bytes: &[u8]) -> io::Result<()> {
+    write(rt, line, 0, direction, bytes)?;
+    let end = read(rt, line, 0)?;
+    read(rt, line, end)?;
     let found = recording::record_at(line, 0);
     if holds(line, found, bytes) {
-        print(b"the bytes are the same\n");
+        print(rt, "the bytes are the same\n")
     } else {
-        print(b"the bytes are NOT the same\n");
+        print(rt, "the bytes are NOT the same\n")
     }
 }
 
 // A record of so many bytes, in a line that it fills.
-fn read_back(direction: u8, count: usize)
+fn read_back(rt: &impl Print, direction: u8, count: usize) -> io::Result<()>
     requires { count ≤ 1030 }
 {
     let bytes = counting();
     let mut line = counting();
     let size = count + 5;
-    write_and_read(&mut line[..size], direction, &bytes[..count]);
+    write_and_read(rt, &mut line[..size], direction, &bytes[..count])
 }
 
 // Three records, which fill the line.
-fn read_back_three() {
+fn read_back_three(rt: &impl Print) -> io::Result<()> {
     let mut line = [0xEEu8; 18];
-    let second = write(&mut line, 0, 0x48, b"\xAA");
-    let third = write(&mut line, second, 0x44, b"\x52\x4C");
-    write(&mut line, third, 0x52, b"");
-    read_three(&line);
+    let second = write(rt, &mut line, 0, 0x48, b"\xAA")?;
+    let third = write(rt, &mut line, second, 0x44, b"\x52\x4C")?;
+    write(rt, &mut line, third, 0x52, b"")?;
+    read_three(rt, &line)
 }
 
-fn show_cuts() {
-    print_title(b"reading: a record of each direction, cut behind each byte");
-    read_cuts(b"\x52\x4C\x48\x00\x02\xAA\xBB");
-    read_cuts(b"\x52\x4C\x44\x00\x01\xAA");
-    read_cuts(b"\x52\x4C\x52\x00\x00");
-    print_title(b"reading: a wrong mark, in its first byte, its second, both");
-    read_cuts(b"\x00\x4C\x48\x00\x02\xAA\xBB");
-    read_cuts(b"\x52\x00\x48\x00\x02\xAA\xBB");
-    read_cuts(b"\x00\x00\x48\x00\x02\xAA\xBB");
-    print_title(b"reading: an unknown direction");
-    read_cuts(b"\x52\x4C\x49\x00\x02\xAA\xBB");
-    read_cuts(b"\x52\x4C\x00\x00\x02\xAA\xBB");
-    read_cuts(b"\x52\x4C\xFF\x00\x02\xAA\xBB");
-    print_title(b"reading: a host record of 0, 1,031 and 65,535 bytes");
-    read_cuts(b"\x52\x4C\x48\x00\x00\xAA\xBB");
-    read_cuts(b"\x52\x4C\x48\x04\x07\xAA\xBB");
-    read_cuts(b"\x52\x4C\x48\xFF\xFF\xAA\xBB");
-    print_title(b"reading: a reset of one byte");
-    read_cuts(b"\x52\x4C\x52\x00\x01\xAA");
+fn show_cuts(rt: &impl Print) -> io::Result<()> {
+    print_title(
+        rt,
+        "reading: a record of each direction, cut behind each byte",
+    )?;
+    read_cuts(rt, b"\x52\x4C\x48\x00\x02\xAA\xBB")?;
+    read_cuts(rt, b"\x52\x4C\x44\x00\x01\xAA")?;
+    read_cuts(rt, b"\x52\x4C\x52\x00\x00")?;
+    print_title(
+        rt,
+        "reading: a wrong mark, in its first byte, its second, both",
+    )?;
+    read_cuts(rt, b"\x00\x4C\x48\x00\x02\xAA\xBB")?;
+    read_cuts(rt, b"\x52\x00\x48\x00\x02\xAA\xBB")?;
+    read_cuts(rt, b"\x00\x00\x48\x00\x02\xAA\xBB")?;
+    print_title(rt, "reading: an unknown direction")?;
+    read_cuts(rt, b"\x52\x4C\x49\x00\x02\xAA\xBB")?;
+    read_cuts(rt, b"\x52\x4C\x00\x00\x02\xAA\xBB")?;
+    read_cuts(rt, b"\x52\x4C\xFF\x00\x02\xAA\xBB")?;
+    print_title(rt, "reading: a host record of 0, 1,031 and 65,535 bytes")?;
+    read_cuts(rt, b"\x52\x4C\x48\x00\x00\xAA\xBB")?;
+    read_cuts(rt, b"\x52\x4C\x48\x04\x07\xAA\xBB")?;
+    read_cuts(rt, b"\x52\x4C\x48\xFF\xFF\xAA\xBB")?;
+    print_title(rt, "reading: a reset of one byte")?;
+    read_cuts(rt, b"\x52\x4C\x52\x00\x01\xAA")
 }
 
-fn show_heads() {
-    print_title(b"reading: lengths at the limits");
-    read_lengths(0x48);
-    read_lengths(0x44);
-    read_lengths(0x52);
-    print_title(b"reading: what is whole is judged, what is not is cut short");
-    read(b"\x52", 0);
-    read(b"\x00", 0);
-    read(b"\x52\x00", 0);
-    read(b"\x52\x4C\x49", 0);
-    read(b"\x52\x4C\x48\xFF", 0);
-    read(b"\x52\x4C\x52\x01", 0);
-    read(b"\x52\x4C\x48\xFF\xFF", 0);
-    print_title(b"reading: an empty recording");
-    read_places(b"", 1);
+fn show_heads(rt: &impl Print) -> io::Result<()> {
+    print_title(rt, "reading: lengths at the limits")?;
+    read_lengths(rt, 0x48)?;
+    read_lengths(rt, 0x44)?;
+    read_lengths(rt, 0x52)?;
+    print_title(
+        rt,
+        "reading: what is whole is judged, what is not is cut short",
+    )?;
+    read(rt, b"\x52", 0)?;
+    read(rt, b"\x00", 0)?;
+    read(rt, b"\x52\x00", 0)?;
+    read(rt, b"\x52\x4C\x49", 0)?;
+    read(rt, b"\x52\x4C\x48\xFF", 0)?;
+    read(rt, b"\x52\x4C\x52\x01", 0)?;
+    read(rt, b"\x52\x4C\x48\xFF\xFF", 0)?;
+    print_title(rt, "reading: an empty recording")?;
+    read_places(rt, b"", 1)
 }
 
 // A host record, a device record whose bytes look like a mark, and a reset.
-fn show_places() {
+fn show_places(rt: &impl Print) -> io::Result<()> {
     let recording = b"\x52\x4C\x48\x00\x01\xAA\x52\x4C\x44\x00\x02\x52\x4C\x52\x4C\x52\x00\x00";
-    print_title(b"reading: three records, one behind the other");
-    read_three(recording);
-    print_title(b"reading: three records, from each place, and from behind the end");
-    read_places(recording, 19);
+    print_title(rt, "reading: three records, one behind the other")?;
+    read_three(rt, recording)?;
+    print_title(
+        rt,
+        "reading: three records, from each place, and from behind the end",
+    )?;
+    read_places(rt, recording, 19)
 }
 
-fn show_room() {
-    print_title(b"writing: a record of each direction into buffers of 0 to 8 bytes");
-    write_sizes(0x48, b"\xAA");
-    write_sizes(0x44, b"\xAA\xBB");
-    write_sizes(0x52, b"");
-    print_title(b"writing: 1,030 bytes");
-    write_long(1034, 0, 0x48, 1030);
-    write_long(1035, 0, 0x48, 1030);
-    write_long(1036, 0, 0x48, 1030);
-    write_long(1036, 1, 0x48, 1030);
-    write_long(1036, 2, 0x48, 1030);
-    print_title(b"writing: at each place, at the end and behind it");
-    write_places(0x48, b"\xAA");
+fn show_room(rt: &impl Print) -> io::Result<()> {
+    print_title(
+        rt,
+        "writing: a record of each direction into buffers of 0 to 8 bytes",
+    )?;
+    write_sizes(rt, 0x48, b"\xAA")?;
+    write_sizes(rt, 0x44, b"\xAA\xBB")?;
+    write_sizes(rt, 0x52, b"")?;
+    print_title(rt, "writing: 1,030 bytes")?;
+    write_long(rt, 1034, 0, 0x48, 1030)?;
+    write_long(rt, 1035, 0, 0x48, 1030)?;
+    write_long(rt, 1036, 0, 0x48, 1030)?;
+    write_long(rt, 1036, 1, 0x48, 1030)?;
+    write_long(rt, 1036, 2, 0x48, 1030)?;
+    print_title(rt, "writing: at each place, at the end and behind it")?;
+    write_places(rt, 0x48, b"\xAA")
 }
 
-fn show_refused() {
-    print_title(b"writing: an unknown direction");
-    write_new(8, 1, 0x00, b"\xAA");
-    write_new(8, 1, 0x49, b"\xAA");
-    write_new(8, 1, 0xFF, b"\xAA");
-    print_title(b"writing: a length that the direction does not have");
-    write_new(8, 1, 0x48, b"");
-    write_new(8, 1, 0x44, b"");
-    write_new(8, 1, 0x52, b"\xAA");
-    write_long(1036, 0, 0x48, 1031);
-    write_long(1036, 0, 0x44, 1031);
-    print_title(b"writing: several faults at once");
-    write_new(8, 8, 0x49, b"\xAA");
-    write_new(8, 8, 0x49, b"");
-    write_long(8, 1, 0x49, 1031);
-    write_new(8, GREATEST, 0x00, b"");
-    write_new(8, 8, 0x48, b"");
-    write_long(8, 1, 0x48, 1031);
-    write_new(8, GREATEST, 0x52, b"\xAA");
+fn show_refused(rt: &impl Print) -> io::Result<()> {
+    print_title(rt, "writing: an unknown direction")?;
+    write_new(rt, 8, 1, 0x00, b"\xAA")?;
+    write_new(rt, 8, 1, 0x49, b"\xAA")?;
+    write_new(rt, 8, 1, 0xFF, b"\xAA")?;
+    print_title(rt, "writing: a length that the direction does not have")?;
+    write_new(rt, 8, 1, 0x48, b"")?;
+    write_new(rt, 8, 1, 0x44, b"")?;
+    write_new(rt, 8, 1, 0x52, b"\xAA")?;
+    write_long(rt, 1036, 0, 0x48, 1031)?;
+    write_long(rt, 1036, 0, 0x44, 1031)?;
+    print_title(rt, "writing: several faults at once")?;
+    write_new(rt, 8, 8, 0x49, b"\xAA")?;
+    write_new(rt, 8, 8, 0x49, b"")?;
+    write_long(rt, 8, 1, 0x49, 1031)?;
+    write_new(rt, 8, GREATEST, 0x00, b"")?;
+    write_new(rt, 8, 8, 0x48, b"")?;
+    write_long(rt, 8, 1, 0x48, 1031)?;
+    write_new(rt, 8, GREATEST, 0x52, b"\xAA")
 }
 
-fn show_both() {
-    print_title(b"both: what was written is read back, and then comes the end");
-    read_back(0x48, 1);
-    read_back(0x44, 2);
-    read_back(0x52, 0);
-    read_back(0x48, 1030);
-    read_back(0x44, 1030);
-    print_title(b"both: three in a row");
-    read_back_three();
+fn show_both(rt: &impl Print) -> io::Result<()> {
+    print_title(
+        rt,
+        "both: what was written is read back, and then comes the end",
+    )?;
+    read_back(rt, 0x48, 1)?;
+    read_back(rt, 0x44, 2)?;
+    read_back(rt, 0x52, 0)?;
+    read_back(rt, 0x48, 1030)?;
+    read_back(rt, 0x44, 1030)?;
+    print_title(rt, "both: three in a row")?;
+    read_back_three(rt)
 }
 
-fn main() {
-    show_cuts();
-    show_heads();
-    show_places();
-    show_room();
-    show_refused();
-    show_both();
+fn main(rt: HostRuntime) -> io::Result<()> {
+    show_cuts(&rt)?;
+    show_heads(&rt)?;
+    show_places(&rt)?;
+    show_room(&rt)?;
+    show_refused(&rt)?;
+    show_both(&rt)
 }

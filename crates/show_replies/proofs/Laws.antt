@@ -1,10 +1,5 @@
 -- A part of a buffer that an answer says the length of. Assumes nothing.
-use mathlib.Core.List.{List}
-use mathlib.Core.Path.{◌≡◌}
-use Prim.Native.Nat.{ℕ, ◌≤◌}
-use native.Mathlib.Omega.{arith}
-use lib.ListN.{length, take}
-use lib.Seq.{length-take-le}
+use Rattle.std.proofs.Common.{List, ◌≡◌, ℕ, ◌≤◌, arith, length, take, length-take-le}
 use Rattle.packet.specs.declared.Kind.TheVariants.{Data}
 use Rattle.packet.specs.Frame.{Framed}
 use Rattle.packet.proofs.Framed.{answer_within}

@@ -3,12 +3,12 @@ use mathlib.Core.Bool.{Bool, true, false, ◌&&◌, cond}
 use mathlib.Core.List.{List, [], ◌∷◌, ◌++◌}
 use mathlib.Core.Option.{some}
 use mathlib.Core.Path.{◌≡◌, refl, sym, ap, ◌∙◌}
-use Prim.Native.Nat.{ℕ, ◌+◌, ◌<◌}
+use Prim.Native.Nat.{ℕ, ◌<◌}
 use native.Mathlib.Omega.{arith}
 use lib.Dec.{eqb}
 use lib.ListN.{length, get_or}
 use borrow.Author.Tests.{eqb-true}
-use Rattle.numbers.specs.Bytes.{number, bytes_of, AllBytes}
+use Rattle.numbers.specs.Bytes.{bytes_of, AllBytes}
 use Rattle.baud.specs.declared.LineSetting.{LineSetting}
 use Rattle.state.specs.declared.Pulse.TheVariants.{Zero, One, Acknowledged}
 use Rattle.state.specs.declared.Range.{Range}

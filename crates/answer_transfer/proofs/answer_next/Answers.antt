@@ -1,0 +1,22 @@
+-- `answer_transfer::answer_next` meets its contract. The verdict decides. Assumes nothing.
+use mathlib.Core.Path.{sym, ◌∙◌}
+use Rattle.answer.proofs.Sending.{answers_as}
+use Rattle.answer_transfer.specs.Transfers.{next_decided}
+use Rattle.answer_transfer.proofs.Reading.{next_answered}
+use Rattle.answer_transfer.proofs.answer_next.Goals as goal
+
+pub returns-in-Refused : goal.returns-in-Refused
+unfolding next_decided
+returns-in-Refused c =
+    let a = c.args in
+    next_answered a.profile a.image.now a.state a.range a.packet.now
+    (sym c.in-Refused.is ∙ c.check_next-verdict.ensures)
+    (answers_as (rw c.in_stage.ensures) c.tell.ensures)
+
+pub returns-in-Granted : goal.returns-in-Granted
+unfolding next_decided
+returns-in-Granted c =
+    let a = c.args in
+    next_answered a.profile a.image.now a.state a.range a.packet.now
+    (sym c.in-Granted.is ∙ c.check_next-verdict.ensures)
+    c.read_packet.ensures
