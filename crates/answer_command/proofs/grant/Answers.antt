@@ -2,8 +2,13 @@
 use Rattle.packet_fields.specs.Fields.{sad_of, ead_of}
 use Rattle.answer_command.proofs.Spans.{write_span, read_span, area_number, span_ends}
 use Rattle.answer_command.proofs.Granting.{by_command}
-use Rattle.answer_command.specs.Grants.{grant_of}
-use mathlib.Core.Path.{sym, ◌∙◌}
+use Rattle.answer_command.specs.Grants.{grant_of, told}
+use mathlib.Core.Path.{sym, ap, ◌∙◌}
+use Rattle.verdict.specs.declared.Verdict.TheVariants.{Granted}
+use Rattle.flash.specs.declared.Act.TheVariants.{Nothing}
+use Rattle.state.specs.declared.Range.{Range}
+use Rattle.state.specs.declared.Stage.TheVariants.{Writing}
+use Rattle.answer.specs.Answer.{moved}
 use Rattle.answer.proofs.Sending.{answers_as}
 use Rattle.answer_command.proofs.grant.Goals as goal
 
@@ -38,8 +43,7 @@ pub returns-in-Inquiry : goal.returns-in-Inquiry
 unfolding grant_of
 returns-in-Inquiry c =
     let a = c.args in
-    answers_as (cc
-    (c.with_held.ensures, by_command a.profile a.image.now a.state a.packet.now c.in-Inquiry.is))
+    answers_as (ap (told a.packet.now Granted Nothing) c.with_held.ensures ∙ by_command a.profile a.image.now a.state a.packet.now c.in-Inquiry.is)
     c.accept.ensures
 
 pub returns-in-Erase : goal.returns-in-Erase
@@ -53,8 +57,8 @@ pub returns-in-Write : goal.returns-in-Write
 unfolding grant_of
 returns-in-Write c =
     let a = c.args in
-    answers_as (cc
-    (c.span.ensures, c.in_stage.ensures, by_command a.profile a.image.now a.state a.packet.now c.in-Write.is))
+    let going = ap (λ (r : Range). moved (Writing r) a.state) c.span.ensures in
+    answers_as (ap (told a.packet.now Granted Nothing) (c.in_stage.ensures ∙ going) ∙ by_command a.profile a.image.now a.state a.packet.now c.in-Write.is)
     c.accept-in-Write.ensures
 
 pub returns-in-Read : goal.returns-in-Read
@@ -97,6 +101,5 @@ pub returns-in-Unknown : goal.returns-in-Unknown
 unfolding grant_of
 returns-in-Unknown c =
     let a = c.args in
-    answers_as (cc
-    (c.with_held-in-Unknown.ensures, by_command a.profile a.image.now a.state a.packet.now c.in-Unknown.is))
+    answers_as (ap (told a.packet.now Granted Nothing) c.with_held-in-Unknown.ensures ∙ by_command a.profile a.image.now a.state a.packet.now c.in-Unknown.is)
     c.accept-in-Unknown.ensures
