@@ -3,7 +3,6 @@ use borrow.Enum.Refused.{opened}
 use Rattle.recording.proofs.Reading.{over_by}
 use Rattle.record_replay.proofs.Playing.{plays_start, plays_next, plays_over}
 use native.Mathlib.Omega.{arith}
-use Prim.Native.Nat.{◌-◌}
 use mathlib.Core.Path.{sym, ◌∙◌}
 use Rattle.record_replay.proofs.play.Goals as goal
 
@@ -16,7 +15,7 @@ shape_of-image-in_default c = c.loop-direction.invariant.kept
 pub returns-in_default : goal.returns-in_default
 returns-in_default c =
     let read = c.record_at-found in
-    plays_over c.loop-direction.invariant read.ensures (over_by read.result (opened c.in_default.in_default-own.keys2)) c.Ended-by.ensures
+    plays_over c.loop-direction.invariant read.ensures (over_by read.result (opened c.in_default.in_default-own.keys2)) c.ended_by.ensures
 
 pub advance-head-requires : goal.advance-head-requires
 advance-head-requires c = (c.loop-direction.invariant.stands, sym c.record_at-found.ensures ∙ c.in-Is.is)

@@ -1,0 +1,24 @@
+-- `interface_record::indraveck_write_record` meets its contract. A number that is no byte is no direction; the rest is what the writer answered. Assumes nothing.
+use mathlib.Core.Path.{refl, sym, ap, ◌∙◌}
+use Rattle.interface_record.proofs.Outcome.{written_bytes, number_refused}
+use Rattle.interface_record.specs.Post.{written_number, place_by}
+use Rattle.interface_record.proofs.indraveck_write_record.Goals as goal
+
+pub returns-then-direction-gt255 : goal.returns-then-direction-gt255
+returns-then-direction-gt255 c =
+    let a = c.args in
+    number_refused a.direction a.at a.bytes.now a.buffer.now c.if-direction-gt255.true _ _ c.fault_number.ensures refl
+
+pub returns-in-Behind : goal.returns-in-Behind
+returns-in-Behind c =
+    let a = c.args in
+    let write_record = c.write_record-written in
+    written_bytes a.direction a.at a.bytes.now a.buffer.now write_record.new.buffer _ write_record.ensures _ _ (ap written_number (sym c.in-Behind.is))
+    (ap (place_by a.at) (sym c.in-Behind.is))
+
+pub returns-in-Refused : goal.returns-in-Refused
+returns-in-Refused c =
+    let a = c.args in
+    let write_record = c.write_record-written in
+    written_bytes a.direction a.at a.bytes.now a.buffer.now write_record.new.buffer _ write_record.ensures _ _ (c.fault_number-in-Refused.ensures ∙ ap written_number (sym c.in-Refused.is))
+    (ap (place_by a.at) (sym c.in-Refused.is))
