@@ -1,19 +1,17 @@
 -- What hearing one byte needs: lengths, numbers of requests, places in a reply. Assumes nothing.
-use Rattle.std.proofs.Common.{◌≡◌, ℕ, ◌+◌, ◌-◌, ◌*◌, ◌%◌, ◌<◌, ◌≤◌, min, Bool, true, false, cond, not, ◌&&◌, eqb, ltb, leb, ◌⊎◌, List, [], ◌∷◌, set, sym, refl, ◌∙◌, inl, inr, arith, ltb-true, le-ltb, lt-ltb, eq-eqb, ne_eqb, eqb-true, le-leb, leb-true}
+use Rattle.std.proofs.Common.{◌≡◌, ℕ, ◌+◌, ◌-◌, ◌*◌, ◌%◌, ◌<◌, ◌≤◌, Bool, true, false, cond, not, ◌&&◌, eqb, ◌⊎◌, List, [], ◌∷◌, set, sym, refl, ◌∙◌, inl, inr, arith, lt-ltb, eq-eqb, ne_eqb, eqb-true, le-leb}
 use borrow.Author.Tests.{lt-leb, eqb-false}
 use Rattle.numbers.specs.Bytes.{number}
-use Rattle.packet.proofs.Laws.{both}
 use Rattle.host_request.specs.declared.Request.{Request}
 use Rattle.host_request.specs.declared.Request.TheVariants.{Inquiry, Erase, Write, Read, Authenticate, Baud, Signature, Area, WriteData, Next}
 use Rattle.host_request.specs.Request.{number_for}
 use Rattle.host_judge.specs.declared.Due.{Due}
 use Rattle.host_judge.specs.declared.Due.TheVariants.{Status, Data, Nothing}
-use Rattle.host_judge.specs.declared.Judgement.{Judgement}
 use Rattle.host_judge.specs.declared.Judgement.TheVariants.{Passed, Refused, WrongReply}
 use Rattle.host_judge.specs.declared.Reply.{Reply}
 use Rattle.host_judge.specs.declared.Judge.{Judge}
 use Rattle.host_judge.specs.Reply.{due_for, grants, denies, judged_by}
-use Rattle.host_judge.specs.Judge.{length_in, data_end, with_count, is_kept, grown, begun, advanced, last_judged, finished, heard_byte}
+use Rattle.host_judge.specs.Judge.{length_in, is_kept, grown, begun, advanced, finished, heard_byte}
 
 -- the number in two bytes
 pub number_of_two : (high low : ℕ) → high * 256 + low ≡ number (high ∷ low ∷ [])

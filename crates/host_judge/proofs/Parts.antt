@@ -1,10 +1,9 @@
 -- The steps in which bytes are taken make what hearing one byte after the other makes. Assumes nothing.
-use Rattle.std.proofs.Common.{◌≡◌, ℕ, suc, ◌+◌, ◌-◌, ◌<◌, ◌≤◌, min, Bool, true, false, cond, not, ◌&&◌, ◌||◌, eqb, ltb, leb, ◌⊎◌, List, [], ◌∷◌, length, get_or, take, drop, sym, refl, ap, ◌∙◌, inl, inr, ⊎_elim, zero-add, add-one, arith, length-drop, drop_of_length-le, length-take-le, drop-cons, ltb-false, ltb-true, eq-eqb, ne_eqb, eqb-true, leb-false, leb-true}
+use Rattle.std.proofs.Common.{◌≡◌, ℕ, suc, ◌+◌, ◌<◌, ◌≤◌, Bool, true, false, cond, not, ◌&&◌, ◌||◌, eqb, ltb, leb, ◌⊎◌, List, [], ◌∷◌, length, get_or, take, drop, refl, ap, ◌∙◌, inl, inr, ⊎_elim, zero-add, add-one, arith, length-drop, drop_of_length-le, length-take-le, drop-cons, ltb-false, ltb-true, eq-eqb, ne_eqb, eqb-true, leb-false, leb-true}
 use borrow.Author.Tests.{eqb-false, not-true, not-false}
 use Rattle.packet.specs.declared.Kind.TheVariants.{Data as DataPacket}
 use Rattle.packet.specs.Packet.{start_of, permitted}
 use Rattle.host_request.specs.declared.Request.{Request}
-use Rattle.host_judge.specs.declared.Judgement.{Judgement}
 use Rattle.host_judge.specs.declared.Judgement.TheVariants.{WrongReply}
 use Rattle.host_judge.specs.declared.Reply.{Reply}
 use Rattle.host_judge.specs.declared.Judge.{Judge}
@@ -13,7 +12,7 @@ use Rattle.host_judge.specs.Reply.{is_unanswered, judged_by}
 use Rattle.host_judge.specs.Judge.{Heard, length_in, with_count, grown, advanced, finished, heard_byte, hearing_of, last_judged}
 use Rattle.host_judge.specs.Runs.{mark_place, began_part, not_next, next_part, run_added, run_of, no_run, run_part, hearing_with, HeardBytes}
 use Rattle.host_judge.proofs.Deciding.{judged_answers}
-use Rattle.host_judge.proofs.OneByte.{and_false, unlike_below, heard_first, heard_between, heard_last}
+use Rattle.host_judge.proofs.OneByte.{and_false, heard_first, heard_between, heard_last}
 use Rattle.host_judge.proofs.Runs.{with_reply, byte_heard, same_heard, run_heard, HeardSo, none_heard, more_heard, one_heard, heard_to_end, heard_to_verdict}
 
 -- where 81h stands, if it does
