@@ -6,10 +6,8 @@ use mathlib.Core.Option.{Option, none, some}
 use mathlib.Core.Path.{◌≡◌, refl, sym, ap, subst, ◌∙◌}
 use Prim.Native.Nat.{ℕ, ◌<◌}
 use native.Mathlib.Omega.{arith}
-use lib.ListN.{length}
 use lib.Dec.{eqb}
 use Rattle.verdict.proofs.OneAnswer.{one_answer}
-use Rattle.host_request.specs.declared.Request.{Request}
 use Rattle.host_request.specs.declared.Unbuilt.{Unbuilt}
 use Rattle.host_request.specs.declared.Unbuilt.TheVariants.{WrongAmount, NothingLeft, NoRoom}
 use Rattle.host_request.specs.declared.Built.{Built}

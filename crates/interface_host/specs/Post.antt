@@ -1,6 +1,5 @@
 -- What building a request and judging its replies from outside leave, by name.
 use Rattle.std.specs.Prelude.{cond, List, ◌≡◌, ℕ, length, eqb}
-use Rattle.host_request.specs.declared.Request.{Request}
 use Rattle.host_request.specs.declared.Unbuilt.{Unbuilt}
 use Rattle.host_request.specs.declared.Unbuilt.TheVariants.{WrongAmount, NothingLeft, NoRoom}
 use Rattle.host_request.specs.declared.Built.{Built}
