@@ -11,7 +11,7 @@ on_disk =
     record {
       reads =
           record {
-            one = λ s all at direction bytes. (writer.reads-entry s at direction bytes all, λ h. writer.entry-reads s at direction bytes h.0 h.1);
+            one = λ s all at direction bytes. (writer.reads_entry s at direction bytes all, λ h. writer.entry_reads s at direction bytes h.0 h.1);
             only = read_part;
             end = end_exactly;
             refused = refused_exactly;
@@ -20,19 +20,19 @@ on_disk =
           };
       writes =
           record {
-            behind = writer.written-exactly;
+            behind = writer.written_exactly;
             kept = λ direction at bytes before after r w n e.
-                (writer.before-kept direction at bytes before after r w n e, writer.behind-kept direction at bytes before after r w n e);
-            refused = writer.unwritten-exactly;
-            unwritten = writer.refused-leaves;
-            once = λ direction at bytes before after after' r r'. writer.wrote-once;
+                (writer.before_kept direction at bytes before after r w n e, writer.behind_kept direction at bytes before after r w n e);
+            refused = writer.unwritten_exactly;
+            unwritten = writer.refused_leaves;
+            once = λ direction at bytes before after after' r r'. writer.wrote_once;
           };
-      record_back = writer.written-reads;
-      records_back = λ rs before to after all. (writer.all-read-back rs before to after all, writer.all-read-whole rs before to after all);
-      records_written = writer.writes-up;
-      bytes_back = writer.same-again;
+      record_back = writer.written_reads;
+      records_back = λ rs before to after all. (writer.all_read_back rs before to after all, writer.all_read_whole rs before to after all);
+      records_written = writer.writes_up;
+      bytes_back = writer.same_again;
       part_back = λ s all. (records_formed s, writes_back s all);
-      same = writer.accepts-same;
+      same = writer.accepts_same;
       ends = λ s. stops_over s 0;
       whole = λ s. (whole_exactly s 0, whole_ends s 0);
     }

@@ -63,15 +63,15 @@ module _ (p : Profile) (st : State) (request : Request) (bytes buffer packet : L
         idle = none_held;
         step = step;
         width = width;
-        buildable = outcome.built-buildable request bytes buffer packet (Is n) b n refl;
+        buildable = outcome.built_buildable request bytes buffer packet (Is n) b n refl;
       }
 
   -- what was fed is its packet, so what was left is its delivery
   ran : Ran d (packet_for request bytes) before after r
-  ran = subst (λ (q : List ℕ). Ran (feed_of p m q) q before after r) (outcome.built-front request bytes buffer packet (Is n) b n refl) (feed_ran f accepted)
+  ran = subst (λ (q : List ℕ). Ran (feed_of p m q) q before after r) (outcome.built_front request bytes buffer packet (Is n) b n refl) (feed_ran f accepted)
 
   consumed : r.consumed ≡ n
-  consumed = ap (λ (x : Fed). x.consumed) ran.is ∙ (agrees p m request bytes sent).consumed ∙ sym ((outcome.built-exactly request bytes buffer packet (Is n) b n).0 refl).1
+  consumed = ap (λ (x : Fed). x.consumed) ran.is ∙ (agrees p m request bytes sent).consumed ∙ sym ((outcome.built_exactly request bytes buffer packet (Is n) b n).0 refl).1
 
   count : r.count ≡ length d.reply
   count = ap (λ (x : Fed). x.count) ran.is
@@ -91,7 +91,7 @@ module _ (p : Profile) (st : State) (request : Request) (bytes buffer packet : L
   judged : (hearing_of (fresh_judge request) (take r.count after.reply)).judge.judgement
       ≡ told_as (verdict_in p before.image st st.stage (packet_for request bytes))
   judged =
-      verdicts.judge-says request (take r.count after.reply)
+      verdicts.judge_says request (take r.count after.reply)
       ∙ ap (judgement_of request) back
       ∙ (agrees p m request bytes sent).judged
 
@@ -101,33 +101,33 @@ host_end =
     record {
       building =
           record {
-            built = outcome.built-exactly;
+            built = outcome.built_exactly;
             placed = λ request bytes before after r b n e.
-                (outcome.built-front request bytes before after r b n e, outcome.built-rest request bytes before after r b n e);
-            refused = outcome.unbuilt-exactly;
-            unwritten = outcome.unbuilt-leaves;
-            once = λ request bytes before after after' r r'. outcome.builds-once;
+                (outcome.built_front request bytes before after r b n e, outcome.built_rest request bytes before after r b n e);
+            refused = outcome.unbuilt_exactly;
+            unwritten = outcome.unbuilt_leaves;
+            once = λ request bytes before after after' r r'. outcome.builds_once;
             whole = λ request bytes e.
-                let w = packets.packet-whole request bytes e in (w.0, w.2, packets.packet-contents request bytes e);
-            known = packets.packet-command;
+                let w = packets.packet_whole request bytes e in (w.0, w.2, packets.packet_contents request bytes e);
+            known = packets.packet_command;
           };
       judging =
           record {
             begins = λ request. refl;
-            says = verdicts.cuts-say;
-            means = exactly.means-exactly;
-            one_number = exactly.judgement-one-number;
-            all = verdicts.taken-all;
-            first = verdicts.taken-first;
+            says = verdicts.cuts_say;
+            means = exactly.means_exactly;
+            one_number = exactly.judgement_one_number;
+            all = verdicts.taken_all;
+            first = verdicts.taken_first;
             final = λ j bytes e.
                 let h = verdicts.taken_none j bytes e in (ap (λ (x : Heard). x.judge) h, ap (λ (x : Heard). x.count) h);
-            told = collected.told-exactly;
+            told = collected.told_exactly;
           };
       together =
           record {
             agrees = agrees;
-            passed = telling.passed-granted;
-            refused = telling.refused-for;
+            passed = telling.passed_granted;
+            refused = telling.refused_for;
             calls = λ p st request bytes buffer packet n before after r w s i b f e. (
               consumed p st request bytes buffer packet n before after r w s i b f e,
               taken p st request bytes buffer packet n before after r w s i b f e,

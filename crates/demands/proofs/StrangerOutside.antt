@@ -192,7 +192,7 @@ starts_alike : (profile image image' before before' after after' : List ℕ) (r 
     → (r ≡ r')
     × ((receive receive' reply reply' : List ℕ) → length receive ≡ length receive' → length reply ≡ length reply' → r ≡ 0
     → AlikeBytes profile (bytes image after receive reply) (bytes image' after' receive' reply'))
-starts_alike profile image image' before before' after after' r r' same size s s' =
+starts_alike profile image image' before earlier after after' r r' same size s s' =
     (number, λ receive receive' reply reply' e f z. record { state = written z; lent = fresh_lent same e f (start_writes s z) })
   where
     number : r ≡ r'

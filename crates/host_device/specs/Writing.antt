@@ -1,5 +1,5 @@
 -- A write as it is planned: packets delivered whole, one after the other, with no reset and no other party.
-use Rattle.std.specs.Prelude.{true, List, [], ◌≡◌, ℕ, suc, ◌+◌, ◌-◌, ◌/◌, ◌%◌, ◌≤◌, length, replicate}
+use Rattle.std.specs.Prelude.{List, [], ◌≡◌, ℕ, suc, ◌+◌, ◌-◌, ◌/◌, ◌%◌, ◌≤◌, length, replicate}
 use Rattle.profile.specs.declared.Profile.{Profile}
 use Rattle.profile.specs.Areas.{areas_of, total_of}
 use Rattle.profile.specs.Places.{place_of, unit_at}

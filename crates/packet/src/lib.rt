@@ -41,6 +41,7 @@ pub enum Progress {
 }
 
 // Whether the kind permits the length.
+#[tactic(auto, unfolding(crate::specs::Packet::permitted))]
 pub fn is_permitted(kind: Kind, length: usize) -> bool
     ensures { result ≡ permitted kind length }
 {

@@ -99,6 +99,7 @@ fn check_head(profile: Profile) -> Acceptance
 }
 
 // The area with number i; `free` is the first address above the areas before it.
+#[tactic(auto, unfolding(crate::specs::Rules::area_checks, verdict::specs::Check::first_fault))]
 fn check_area(area: Area, i: usize, free: u64) -> Acceptance
     ensures { result ≡ acceptance_of (first_fault (area_checks i free area)) }
 {
