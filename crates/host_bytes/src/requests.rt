@@ -41,6 +41,7 @@ fn single_of(n: u32, first: u32) -> RequestIn
 }
 
 // The request of a number, with its own numbers: 0 where it has none.
+#[tactic(auto, unfolding(crate::specs::Requests::request_in))]
 pub fn request_of(n: u32, first: u32, second: u32) -> RequestIn
     ensures { result ≡ request_in n first second }
 {

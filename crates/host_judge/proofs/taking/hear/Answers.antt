@@ -1,11 +1,11 @@
 -- `host_judge::taking::hear` meets its contract. Behind each step, hearing the rest is hearing all. Assumes nothing.
-use Rattle.std.proofs.Common.{sym, ap, ◌∙◌, inl, inr}
+use Rattle.std.proofs.Common.{◌<◌, sym, ap, ◌∙◌, arith}
+use Rattle.std.proofs.lemmas.Grind.{common_steps}
 use Rattle.packet.specs.declared.Kind.TheVariants.{Data as DataPacket}
 use Rattle.packet.specs.Packet.{permitted}
 use Rattle.host_judge.proofs.Runs.{none_heard, heard_to_verdict}
 use Rattle.host_judge.proofs.Parts.{part_high, part_low, part_unfit, part_rest, part_ends, part_last}
 use Rattle.host_judge.proofs.taking.hear.Goals as goal
-use Rattle.host_judge.proofs.taking.hear.Goals.{else-high-low-via-then-high-low+else-not-is_permitted, else-high-low-via-else-high-low}
 
 pub returns-then-not-is_unanswered : goal.returns-then-not-is_unanswered
 returns-then-not-is_unanswered c =
@@ -21,9 +21,10 @@ returns-then-not-is_permitted c =
     let second = c.hear_next-low in
     let high = part_high a.judge u a.bytes.now c.begin_part.result first.result c.begin_part.ensures first.ensures in
     let bad = ap (permitted DataPacket) (sym c.length.ensures.0) ∙ sym c.is_permitted.ensures ∙ c.if-not-is_permitted.true in
+    let more : first.result.taken < second.result.taken = omega arith in
     rw (c.told.ensures, second.ensures)
     (part_unfit a.judge u a.bytes.now first.result high
-    (rw second.ensures at c.if-high-low.true) (rw second.ensures at bad))
+    (rw second.ensures at more) (rw second.ensures at bad))
 
 pub returns-then-bytes-taken : goal.returns-then-bytes-taken
 returns-then-bytes-taken c =
@@ -34,11 +35,7 @@ returns-then-bytes-taken c =
     let high = part_high a.judge u a.bytes.now c.begin_part.result first.result c.begin_part.ensures first.ensures in
     let low =
     part_low a.judge u a.bytes.now first.result second.result high second.ensures
-    (elim c.else-high-low.branch [
-      | else-high-low-via-then-high-low+else-not-is_permitted w ↦
-          inr (ap (permitted DataPacket) (sym w.length.ensures.0) ∙ sym w.is_permitted.ensures ∙ w.if-not-is_permitted.false)
-      | else-high-low-via-else-high-low w ↦ inl w.if-high-low.false
-    ]) in
+    (grind (arith, common_steps)) in
     let run = c.hear_run-part in
     let rest =
     part_rest a.judge u a.bytes.now second.result c.hear_next.result c.hear_next-status.result run.result low
@@ -54,11 +51,7 @@ returns c =
     let high = part_high a.judge u a.bytes.now c.begin_part.result first.result c.begin_part.ensures first.ensures in
     let low =
     part_low a.judge u a.bytes.now first.result second.result high second.ensures
-    (elim c.else-high-low.branch [
-      | else-high-low-via-then-high-low+else-not-is_permitted w ↦
-          inr (ap (permitted DataPacket) (sym w.length.ensures.0) ∙ sym w.is_permitted.ensures ∙ w.if-not-is_permitted.false)
-      | else-high-low-via-else-high-low w ↦ inl w.if-high-low.false
-    ]) in
+    (grind (arith, common_steps)) in
     let run = c.hear_run-part in
     let rest =
     part_rest a.judge u a.bytes.now second.result c.hear_next.result c.hear_next-status.result run.result low
