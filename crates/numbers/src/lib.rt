@@ -1,9 +1,13 @@
 // Numbers on the line: two or four bytes, high byte first; the smaller of two numbers; whether bytes are the same; a copy.
 #![tactic(auto)]
 
-ghost use Rattle.std.specs.Prelude.{◌≡◌, ◌+◌, ◌++◌, ◌<◌, ◌≤◌, min, leb, length, drop};
+mod copying;
+
+ghost use Rattle.std.specs.Prelude.{◌≡◌, ◌+◌, ◌<◌, min, leb};
 ghost use Rattle.numbers.specs.Bytes.{number_at, Put};
 ghost use Rattle.numbers.specs.Same.{same};
+
+pub use copying::copy;
 
 // A number that was read, or that the slice ends before the number does.
 #[derive(Clone, Copy)]
@@ -102,12 +106,4 @@ pub fn equal(a: &[u8], b: &[u8]) -> bool
         i += 1;
     }
     true
-}
-
-// Copies the bytes to the front of a buffer that has room for them; what is behind them stays.
-pub fn copy(from: &[u8], to: &mut [u8])
-    requires { length from.now ≤ length to.old }
-    ensures { to.new ≡ from.now ++ drop (length from.now) to.old }
-{
-    to[..from.len()].copy_from_slice(from);
 }
