@@ -22,14 +22,13 @@ use Rattle.host_request.specs.Request.{packet_for, InWidth}
 use Rattle.host_request.specs.Build.{Builds}
 use Rattle.host_request.proofs.Packets as packets
 use Rattle.host_request.proofs.Outcome as outcome
-use Rattle.host_judge.specs.declared.Judgement.{Judgement}
 use Rattle.host_judge.specs.Reply.{from_mark, judged_at, judgement_of}
 use Rattle.host_judge.specs.Judge.{Heard, fresh_judge, hearing_of}
 use Rattle.host_judge.specs.Meaning.{joined}
 use Rattle.host_judge.proofs.Verdicts as verdicts
 use Rattle.host_judge.proofs.Exactly as exactly
 use Rattle.host_judge.proofs.Collected as collected
-use Rattle.host_device.specs.Agreement.{InStep, Sent, verdict_in, told_as, sending, Agrees}
+use Rattle.host_device.specs.Agreement.{InStep, Sent, verdict_in, told_as, sending}
 use Rattle.host_device.proofs.Agreement.{agrees}
 use Rattle.host_device.proofs.Telling as telling
 use Rattle.host_device.proofs.Known.{sci_known, area_known}

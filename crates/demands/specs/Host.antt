@@ -1,5 +1,5 @@
 -- The host's end: requests are built into packets of the device's own, replies are judged and nothing passes by default, and both ends together.
-use Rattle.std.specs.Prelude.{true, false, List, [], ◌∷◌, ◌↔◌, ◌≡◌, ℕ, ◌<◌, ◌≤◌, length, take, drop, get_or}
+use Rattle.std.specs.Prelude.{true, false, List, [], ◌∷◌, ◌↔◌, ◌≡◌, ℕ, ◌<◌, length, take, drop, get_or}
 use Rattle.std.proofs.Math.Option.{none}
 use Rattle.numbers.specs.Bytes.{AllBytes}
 use Rattle.verdict.specs.declared.Verdict.TheVariants.{Granted}

@@ -4,7 +4,6 @@ use Rattle.record_driver.proofs.Playing.{playing_none, played_all, playing_on}
 use Rattle.recording.proofs.Reading.{found_lies, over_by}
 use mathlib.Core.Path.{sym, ◌∙◌}
 use native.Mathlib.Omega.{arith}
-use Prim.Native.Nat.{◌-◌}
 use Rattle.record_driver.proofs.run.Goals as goal
 
 pub loop-direction-init : goal.loop-direction-init

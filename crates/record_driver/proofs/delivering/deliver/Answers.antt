@@ -1,7 +1,6 @@
 -- `record_driver::delivering::deliver` meets its contract. The loop keeps that all bytes give what the rest gives from the machine reached. Assumes nothing.
 use Rattle.record_driver.proofs.Deliveries.{hearing_none, goes_on, stays, hearing_on, heard_all}
 use native.Mathlib.Omega.{arith}
-use Prim.Native.Nat.{◌-◌}
 use Rattle.record_driver.proofs.delivering.deliver.Goals as goal
 
 pub loop-at-init : goal.loop-at-init
