@@ -174,7 +174,7 @@ def written(rows, lost):
         text.append(line)
     if lost:
         text += ["", "### Edits of no function", "",
-                 f"Laws refuse them; no contract of their crate cites what they change: {labels('', lost)}."]
+                 f"Laws refuse them, or the text that a `Display` states; no contract of their crate cites what they change: {labels('', lost)}."]
     return "\n".join([*text, "", ""])
 
 

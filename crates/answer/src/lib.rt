@@ -26,12 +26,13 @@ pub fn in_stage(state: State, stage: Stage) -> State
     state::with_held(state::with_stage(state, stage), 0)
 }
 
-// A status reply to a request with this COM or RES.
+// A status reply to a request with this COM or RES. That the buffer is `Roomy` stays a clause, here and in the floors above: a type round the lent slice
+// would stand between each clause and the caller's bytes.
 pub fn tell(reply: &mut [u8], act: Act, state: State, request: u8, verdict: Verdict) -> Answered
     requires { Roomy reply.old }
     ensures { Answers (record { act = act; state = state; reply = status_reply request verdict }) result reply.old reply.new }
 {
-    let count = packet_reply::put_status(reply, request, verdict);
+    let count = packet_reply::put_status(reply, request, verdict).unwrap();
     Answered { act, state, count }
 }
 
@@ -40,7 +41,7 @@ pub fn send(reply: &mut [u8], state: State, res: u8, bytes: &[u8]) -> Answered
     requires { Roomy reply.old × (length bytes.now ≤ longest_data) }
     ensures { Answers (record { act = Nothing; state = state; reply = data_reply res bytes.now }) result reply.old reply.new }
 {
-    let count = packet_reply::put_data(reply, res, bytes);
+    let count = packet_reply::put_data(reply, res, bytes).unwrap();
     Answered {
         act: Act::Nothing,
         state,

@@ -1,8 +1,8 @@
 -- The range of a granted command does not end at the last address, and the number of a granted area is below eight. Assumes nothing.
 use mathlib.Core.List.{List}
-use mathlib.Core.Option.{none}
-use mathlib.Core.Path.{◌≡◌, refl, sym, ap, subst, ◌∙◌}
-use Prim.Native.Nat.{ℕ, ◌+◌, ◌-◌, ◌≤◌, ◌<◌}
+use Rattle.std.specs.Prelude.{None}
+use mathlib.Core.Path.{◌≡◌, sym, ap, subst, ◌∙◌}
+use Prim.Native.Nat.{ℕ, ◌+◌, ◌≤◌, ◌<◌}
 use native.Mathlib.Omega.{arith}
 use borrow.Author.Tests.{leb-false}
 use Rattle.verdict.specs.Check.{first_fault, NoneApplies}
@@ -33,7 +33,7 @@ permitted_span p w purpose s e a g =
     (l.in_area.ordered, omega (arith, top, l.in_area.ends))
 
 -- what a granted command says of its range and its area number
-module _ (p : Profile) (st : State) (q : List ℕ) (a : Accepted p) (granted : first_fault (command_checks p st q) ≡ none) where
+module _ (p : Profile) (st : State) (q : List ℕ) (a : Accepted p) (granted : first_fault (command_checks p st q) ≡ None) where
   pub write_span : com_of (code_at q) ≡ Write → (sad_of q ≤ ead_of q) × (ead_of q ≤ 4294967294)
   write_span e = permitted_span p (window_of p st) ToWrite (sad_of q) (ead_of q) a (granted_write p st q granted e)
 
@@ -43,15 +43,9 @@ module _ (p : Profile) (st : State) (q : List ℕ) (a : Accepted p) (granted : f
   pub area_number : com_of (code_at q) ≡ ComArea → area_number_of q < 8
   unfolding own_checks area_number_checks NoneApplies
   area_number e =
-      let own : first_fault (area_number_checks p.noa q) ≡ none = ap (λ (k : Com). first_fault (own_checks p st k q)) (sym e) ∙ own_clear p st q granted in
+      let own : first_fault (area_number_checks p.noa q) ≡ None = ap (λ (k : Com). first_fault (own_checks p st k q)) (sym e) ∙ own_clear p st q granted in
       let n = clear (area_number_checks p.noa q) own in
       omega (arith, leb-false p.noa (area_number_of q) n.0, (sound p a).at_most_eight)
-
--- the range as it is reckoned without passing the last address
-pub span_is : (s e x y : ℕ) → x ≡ s → y ≡ e → s ≤ e → record { next = x; left = y - x + 1 } ≡ span_of s e
-span_is s e x y f g h =
-    let n : y - x + 1 ≡ e + 1 - s = omega arith in
-    rw (n, f) refl
 
 -- such a range ends with the addresses
 pub span_ends : (r : Range) (s e : ℕ) → r ≡ span_of s e → s ≤ e → e ≤ 4294967294 → r.next + r.left ≤ 4294967296

@@ -2,11 +2,10 @@
 use mathlib.Core.Bool.{Bool, true, false, cond}
 use mathlib.Core.List.{List}
 use mathlib.Core.Logic.{◌⊎◌, inl, inr}
-use mathlib.Core.Option.{Option, none, some}
+use Rattle.std.specs.Prelude.{Option, None, Some, Ok, Err}
 use mathlib.Core.Path.{◌≡◌, refl, sym, ap, subst, ◌∙◌}
 use Prim.Native.Nat.{ℕ}
 use Rattle.verdict.specs.declared.Reason.{Reason}
-use Rattle.verdict.specs.declared.Verdict.TheVariants.{Granted, Refused}
 use Rattle.verdict.specs.Check.{first_fault, verdict_of}
 use Rattle.id_code.specs.Identity.{total_erase}
 use Rattle.profile.specs.declared.Profile.{Profile}
@@ -24,11 +23,11 @@ use Rattle.answer_command.specs.Grants.{told, entered, grant_of, decided, answer
 module _ (p : Profile) (st : State) (q : List ℕ) (stage : st.stage ≡ Authentication) where
   -- what is answered, by the first fault: no image is in it
   abbrev tried : Option Reason → Answer
-  tried none = entered p st q
-  tried (some reason) = told q (Refused reason) Nothing (with_held 0 st)
+  tried None = entered p st q
+  tried (Some reason) = told q (Err reason) Nothing (with_held 0 st)
 
   -- nothing but 30h is granted
-  lets_authenticate : first_fault (command_checks p st q) ≡ none → com_of (code_at q) ≡ Authenticate
+  lets_authenticate : first_fault (command_checks p st q) ≡ None → com_of (code_at q) ≡ Authenticate
   unfolding com_of com_in
   lets_authenticate e = ap com_of (in_authentication p st q e stage)
 
@@ -37,25 +36,25 @@ module _ (p : Profile) (st : State) (q : List ℕ) (stage : st.stage ≡ Authent
   tried_is image = by_fault (first_fault (command_checks p st q)) refl
     where
       by_fault : (f : Option Reason) → first_fault (command_checks p st q) ≡ f → decided p image st q (verdict_of f) ≡ tried f
-      by_fault none e = ap (grant_of p image st q) (lets_authenticate e)
-      by_fault (some reason) e = refl
+      by_fault None e = ap (grant_of p image st q) (lets_authenticate e)
+      by_fault (Some reason) e = refl
 
   pub authentication_unseen : (image image' : List ℕ) → answer_command p image st q ≡ answer_command p image' st q
   authentication_unseen image image' = tried_is image ∙ sym (tried_is image')
 
   -- what holds of the three answers holds of the one that is given: after a total erase, with the ID, and refused
-  pub authentication_answers : (P : Answer → Type 0) → P (told q Granted EraseAll (fresh_state p)) → P (told q Granted Nothing (moved Command st))
-      → ((reason : Reason) → P (told q (Refused reason) Nothing (with_held 0 st))) → (image : List ℕ) → P (answer_command p image st q)
+  pub authentication_answers : (P : Answer → Type 0) → P (told q (Ok tt) EraseAll (fresh_state p)) → P (told q (Ok tt) Nothing (moved Command st))
+      → ((reason : Reason) → P (told q (Err reason) Nothing (with_held 0 st))) → (image : List ℕ) → P (answer_command p image st q)
   unfolding entered
   authentication_answers P erased admitted refused image = subst P (sym (tried_is image)) (by_fault (first_fault (command_checks p st q)))
     where
-      by_test : (t : Bool) → P (cond t (told q Granted EraseAll (fresh_state p)) (told q Granted Nothing (moved Command st)))
+      by_test : (t : Bool) → P (cond t (told q (Ok tt) EraseAll (fresh_state p)) (told q (Ok tt) Nothing (moved Command st)))
       by_test true = erased
       by_test false = admitted
 
       by_fault : (f : Option Reason) → P (tried f)
-      by_fault none = by_test (total_erase st.id (info_of q))
-      by_fault (some reason) = refused reason
+      by_fault None = by_test (total_erase st.id (info_of q))
+      by_fault (Some reason) = refused reason
 
   pub authentication_acts : (image : List ℕ) → ((answer_command p image st q).act ≡ Nothing) ⊎ ((answer_command p image st q).act ≡ EraseAll)
   authentication_acts image =

@@ -1,8 +1,6 @@
 -- What a complete command is answered.
-use Rattle.std.specs.Prelude.{cond, List, ℕ, ◌+◌, ◌-◌, get_or}
-use Rattle.verdict.specs.declared.Verdict.{Verdict}
-use Rattle.verdict.specs.declared.Verdict.TheVariants.{Granted, Refused}
-use Rattle.verdict.specs.Check.{first_fault, verdict_of}
+use Rattle.std.specs.Prelude.{cond, List, ℕ, ◌+◌, ◌-◌, get_or, Ok, Err}
+use Rattle.verdict.specs.Check.{first_fault, verdict_of, Verdict}
 use Rattle.profile.specs.declared.Profile.{Profile}
 use Rattle.profile.specs.Areas.{no_area}
 use Rattle.baud.specs.Rate.{setting_of}
@@ -36,25 +34,25 @@ shown res bytes st = record { act = Nothing; state = with_held 0 st; reply = dat
 
 -- a code that was let in: total erase, or the command stage
 unfoldable pub entered : Profile → State → List ℕ → Answer
-entered p st q = cond (total_erase st.id (info_of q)) (told q Granted EraseAll (fresh_state p)) (told q Granted Nothing (moved Command st))
+entered p st q = cond (total_erase st.id (info_of q)) (told q (Ok tt) EraseAll (fresh_state p)) (told q (Ok tt) Nothing (moved Command st))
 
 -- what each command does when it is granted; an unknown one never is, and an area's entry is there: device_steps, proofs/Defaults,
 -- `unknown_not_granted` and `area_there`
 unfoldable pub grant_of : Profile → List ℕ → State → List ℕ → Com → Answer
-grant_of p image st q Inquiry = told q Granted Nothing (with_held 0 st)
-grant_of p image st q Erase = told q Granted (EraseRange (sad_of q) (ead_of q)) (with_held 0 st)
-grant_of p image st q Write = told q Granted Nothing (moved (Writing (span_of (sad_of q) (ead_of q))) st)
+grant_of p image st q Inquiry = told q (Ok tt) Nothing (with_held 0 st)
+grant_of p image st q Erase = told q (Ok tt) (EraseRange (sad_of q) (ead_of q)) (with_held 0 st)
+grant_of p image st q Write = told q (Ok tt) Nothing (moved (Writing (span_of (sad_of q) (ead_of q))) st)
 grant_of p image st q Read = read_packet p image st (span_of (sad_of q) (ead_of q))
 grant_of p image st q Authenticate = entered p st q
-grant_of p image st q Baud = told q Granted Nothing (with_held 0 (with_line (setting_of p.sci (brt_of q)) st))
+grant_of p image st q Baud = told q (Ok tt) Nothing (with_held 0 (with_line (setting_of p.sci (brt_of q)) st))
 grant_of p image st q Signature = shown (com_number Signature) (signature_message p) st
 grant_of p image st q Area = shown (com_number Area) (area_message (get_or p.areas (area_number_of q) no_area)) st
-grant_of p image st q Unknown = told q Granted Nothing (with_held 0 st)
+grant_of p image st q Unknown = told q (Ok tt) Nothing (with_held 0 st)
 
 -- a refused command changes nothing but that its packet is no longer held
 unfoldable pub decided : Profile → List ℕ → State → List ℕ → Verdict → Answer
-decided p image st q Granted = grant_of p image st q (com_of (code_at q))
-decided p image st q (Refused reason) = told q (Refused reason) Nothing (with_held 0 st)
+decided p image st q (Ok tt) = grant_of p image st q (com_of (code_at q))
+decided p image st q (Err reason) = told q (Err reason) Nothing (with_held 0 st)
 
 unfoldable pub answer_command : Profile → List ℕ → State → List ℕ → Answer
 answer_command p image st q = decided p image st q (verdict_of (first_fault (command_checks p st q)))

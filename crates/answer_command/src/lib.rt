@@ -2,7 +2,6 @@
 #![tactic(auto)]
 
 ghost use Rattle.std.specs.Prelude.{◌≡◌, ◌≤◌, ◌<◌, get_or};
-ghost use Rattle.verdict.specs.declared.Verdict.TheVariants.{Granted};
 ghost use Rattle.profile.specs.Areas.{no_area};
 ghost use Rattle.profile_rules.specs.Rules.{Accepted};
 ghost use Rattle.baud.specs.Rate.{setting_of};
@@ -38,22 +37,18 @@ fn span(packet: &[u8]) -> Range
 }
 
 // A status reply OK.
+#[tactic(auto, using(answer::proofs::Sending::answers_as))]
 fn accept(reply: &mut [u8], act: Act, state: State, packet: &[u8]) -> Answered
     requires { Roomy reply.old }
-    ensures { Answers (told packet.now Granted act state) result reply.old reply.new }
+    ensures { Answers (told packet.now (Ok tt) act state) result reply.old reply.new }
 {
-    tell(
-        reply,
-        act,
-        state,
-        packet_fields::byte_at(packet, 3),
-        Verdict::Granted,
-    )
+    tell(reply, act, state, packet_fields::byte_at(packet, 3), Ok(()))
 }
 
+#[tactic(auto, using(answer::proofs::Sending::answers_as))]
 fn grant_erase(state: State, packet: &[u8], reply: &mut [u8]) -> Answered
     requires { Roomy reply.old }
-    ensures { Answers (told packet.now Granted (EraseRange (sad_of packet.now) (ead_of packet.now)) (with_held 0 state)) result reply.old reply.new }
+    ensures { Answers (told packet.now (Ok tt) (EraseRange (sad_of packet.now) (ead_of packet.now)) (with_held 0 state)) result reply.old reply.new }
 {
     let sad = packet_fields::four_at(packet, 4);
     let ead = packet_fields::four_at(packet, 8);
@@ -61,26 +56,29 @@ fn grant_erase(state: State, packet: &[u8], reply: &mut [u8]) -> Answered
     accept(reply, act, with_held(state, 0), packet)
 }
 
+#[tactic(auto, using(answer::proofs::Sending::answers_as), unfolding(crate::specs::Grants::entered))]
 fn grant_authenticate(profile: Profile, state: State, packet: &[u8], reply: &mut [u8]) -> Answered
     requires { Roomy reply.old }
     ensures { Answers (entered profile state packet.now) result reply.old reply.new }
 {
-    let id = state.id;
-    if id_code::is_total_erase(id, packet_fields::info(packet)) {
-        return accept(reply, Act::EraseAll, state::fresh(profile), packet);
+    if id_code::is_total_erase(state.id, packet_fields::info(packet)) {
+        accept(reply, Act::EraseAll, state::fresh(profile), packet)
+    } else {
+        accept(reply, Act::Nothing, in_stage(state, Stage::Command), packet)
     }
-    accept(reply, Act::Nothing, in_stage(state, Stage::Command), packet)
 }
 
+#[tactic(auto, using(answer::proofs::Sending::answers_as))]
 fn grant_baud(profile: Profile, state: State, packet: &[u8], reply: &mut [u8]) -> Answered
     requires { Roomy reply.old }
-    ensures { Answers (told packet.now Granted Nothing (with_held 0 (with_line (setting_of profile.sci (brt_of packet.now)) state))) result reply.old reply.new }
+    ensures { Answers (told packet.now (Ok tt) Nothing (with_held 0 (with_line (setting_of profile.sci (brt_of packet.now)) state))) result reply.old reply.new }
 {
     let line = baud::setting(profile.sci, packet_fields::four_at(packet, 4));
     let tuned = with_held(state::with_line(state, line), 0);
     accept(reply, Act::Nothing, tuned, packet)
 }
 
+#[tactic(auto, using(answer::proofs::Sending::answers_as))]
 fn grant_signature(profile: Profile, state: State, reply: &mut [u8]) -> Answered
     requires { Roomy reply.old }
     ensures { Answers (shown (com_number Signature) (signature_message profile) state) result reply.old reply.new }
@@ -89,17 +87,18 @@ fn grant_signature(profile: Profile, state: State, reply: &mut [u8]) -> Answered
     send(reply, with_held(state, 0), SIGNATURE, &bytes)
 }
 
+#[tactic(auto, using(answer::proofs::Sending::answers_as))]
 fn grant_area(profile: Profile, state: State, packet: &[u8], reply: &mut [u8]) -> Answered
     requires { Roomy reply.old × (area_number_of packet.now < 8) }
     ensures { Answers (shown (com_number Area) (area_message (get_or profile.areas (area_number_of packet.now) no_area)) state) result reply.old reply.new }
 {
-    let number = packet_fields::byte_at(packet, 4) as usize;
-    let area = profile.areas[number];
-    let bytes = packet_messages::area_message(area);
+    let number = usize::from(packet_fields::byte_at(packet, 4));
+    let bytes = packet_messages::area_message(profile.areas[number]);
     send(reply, with_held(state, 0), AREA, &bytes)
 }
 
 // A command that was granted.
+#[tactic(auto, using(answer::proofs::Sending::answers_as, crate::proofs::Granting::by_command), unfolding(crate::specs::Grants::grant_of))]
 fn grant(
     profile: Profile,
     image: &[u8],
@@ -112,7 +111,6 @@ fn grant(
     ensures { Answers (grant_of profile image.now state packet.now cmd) result reply.old reply.new }
 {
     match cmd {
-        Com::Inquiry => accept(reply, Act::Nothing, with_held(state, 0), packet),
         Com::Erase => grant_erase(state, packet, reply),
         Com::Write => {
             let going = Stage::Writing(span(packet));
@@ -123,7 +121,7 @@ fn grant(
         Com::Baud => grant_baud(profile, state, packet, reply),
         Com::Signature => grant_signature(profile, state, reply),
         Com::Area => grant_area(profile, state, packet, reply),
-        Com::Unknown => accept(reply, Act::Nothing, with_held(state, 0), packet),
+        Com::Inquiry | Com::Unknown => accept(reply, Act::Nothing, with_held(state, 0), packet),
     }
 }
 
@@ -139,17 +137,16 @@ pub fn answer_command(
     ensures { Answers (answer_command profile image.now state packet.now) result reply.old reply.new }
 {
     let request = packet_fields::byte_at(packet, 3);
-    let verdict = check_command::check_command(profile, state, packet);
-    match verdict {
-        Verdict::Refused(reason) => tell(
+    match check_command::check_command(profile, state, packet) {
+        Err(reason) => tell(
             reply,
             Act::Nothing,
             with_held(state, 0),
             request,
-            Verdict::Refused(reason),
+            Err(reason),
         ),
-        Verdict::Granted => {
-            let cmd = packet_fields::com_of(request);
+        Ok(()) => {
+            let cmd = Com::from(request);
             grant(profile, image, state, cmd, packet, reply)
         }
     }

@@ -4,9 +4,7 @@ use mathlib.Core.Path.{◌≡◌, refl, ap}
 use Prim.Native.Nat.{ℕ, ◌≤◌}
 use native.Mathlib.Omega.{arith}
 use lib.ListN.{length}
-use Rattle.verdict.specs.declared.Verdict.{Verdict}
-use Rattle.verdict.specs.declared.Verdict.TheVariants.{Granted, Refused}
-use Rattle.verdict.specs.Check.{first_fault, verdict_of}
+use Rattle.verdict.specs.Check.{first_fault, verdict_of, Verdict}
 use Rattle.profile.specs.declared.Profile.{Profile}
 use Rattle.profile.specs.Areas.{areas_of}
 use Rattle.packet.specs.Frame.{longest_data}
@@ -22,6 +20,7 @@ use Rattle.check_transfer.specs.Transfer.{next_checks}
 use Rattle.answer.specs.declared.Answered.{Answered}
 use Rattle.answer.specs.Answer.{moved, Answers}
 use Rattle.answer.proofs.Sending.{answers_as}
+use Rattle.std.specs.Prelude.{Ok, Err}
 use Rattle.answer_transfer.specs.Transfers.{after, read_count, read_packet, next_decided, answer_next}
 
 -- the bytes that are fetched for a packet fit into one
@@ -51,5 +50,5 @@ unfolding answer_next next_decided read_packet
 next_act p image st r q = by (verdict_of (first_fault (next_checks q)))
   where
     by : (v : Verdict) → (next_decided p image st r v).act ≡ Nothing
-    by Granted = refl
-    by (Refused reason) = refl
+    by (Ok tt) = refl
+    by (Err reason) = refl

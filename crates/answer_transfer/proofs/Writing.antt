@@ -2,9 +2,7 @@
 use mathlib.Core.List.{List}
 use mathlib.Core.Path.{◌≡◌, sym, ap, ◌∙◌}
 use Prim.Native.Nat.{ℕ, ◌≤◌}
-use Rattle.verdict.specs.declared.Verdict.{Verdict}
-use Rattle.verdict.specs.declared.Verdict.TheVariants.{Granted}
-use Rattle.verdict.specs.Check.{first_fault, verdict_of}
+use Rattle.verdict.specs.Check.{first_fault, verdict_of, Verdict}
 use Rattle.verdict.proofs.FirstFault.{granted_clear}
 use Rattle.profile.specs.declared.Profile.{Profile}
 use Rattle.profile.specs.Areas.{areas_of}
@@ -20,18 +18,19 @@ use Rattle.check_transfer.proofs.WriteGranted.{write_most}
 use Rattle.answer.specs.declared.Answered.{Answered}
 use Rattle.answer.specs.Answer.{moved, Answers}
 use Rattle.answer.proofs.Sending.{answers_as}
+use Rattle.std.specs.Prelude.{Ok}
 use Rattle.answer_transfer.specs.Transfers.{after, write_decided, answer_write}
 
 -- data that was granted is no more than is left
 pub data_fits : (p : Profile) (image : List ℕ) (range : Range) (q : List ℕ) {v : Verdict} → v ≡ verdict_of (first_fault (write_checks (areas_of p) image range q))
-    → v ≡ Granted → info_count q ≤ range.left
+    → v ≡ Ok tt → info_count q ≤ range.left
 data_fits p image range q e g = write_most (areas_of p) image range q (granted_clear _ (sym e ∙ g))
 
 module _ (st : State) (range : Range) (q : List ℕ) {r : Answered} {before behind : List ℕ} where
   -- the count and the stage behind it make the answer
   pub data_stored : {n : ℕ} {stage : Stage} {next : State} → n ≡ info_count q → stage ≡ after Writing range n → next ≡ moved stage st
-      → Answers (record { act = Store range.next n; state = next; reply = status_reply 0x13 Granted }) r before behind
-      → Answers (write_decided st range q Granted) r before behind
+      → Answers (record { act = Store range.next n; state = next; reply = status_reply 0x13 (Ok tt) }) r before behind
+      → Answers (write_decided st range q (Ok tt)) r before behind
   unfolding write_decided
   data_stored count stage state s = answers_as (rw (state, stage, count)) s
 

@@ -1,8 +1,6 @@
 -- What a packet of a write or of a read under way is answered.
-use Rattle.std.specs.Prelude.{cond, List, ℕ, ◌+◌, ◌-◌, min, eqb}
-use Rattle.verdict.specs.declared.Verdict.{Verdict}
-use Rattle.verdict.specs.declared.Verdict.TheVariants.{Granted, Refused}
-use Rattle.verdict.specs.Check.{first_fault, verdict_of}
+use Rattle.std.specs.Prelude.{cond, List, ℕ, ◌+◌, ◌-◌, min, eqb, Ok, Err}
+use Rattle.verdict.specs.Check.{first_fault, verdict_of, Verdict}
 use Rattle.profile.specs.declared.Profile.{Profile}
 use Rattle.profile.specs.Areas.{areas_of}
 use Rattle.packet.specs.Frame.{longest_data}
@@ -39,16 +37,16 @@ abbrev pub broken : ℕ → State → Verdict → Answer
 broken res st v = record { act = Nothing; state = moved Command st; reply = status_reply res v }
 
 unfoldable pub write_decided : State → Range → List ℕ → Verdict → Answer
-write_decided st r q Granted =
-    record { act = Store r.next (info_count q); state = moved (after Writing r (info_count q)) st; reply = status_reply (com_number Write) Granted }
-write_decided st r q (Refused reason) = broken (com_number Write) st (Refused reason)
+write_decided st r q (Ok tt) =
+    record { act = Store r.next (info_count q); state = moved (after Writing r (info_count q)) st; reply = status_reply (com_number Write) (Ok tt) }
+write_decided st r q (Err reason) = broken (com_number Write) st (Err reason)
 
 unfoldable pub answer_write : Profile → List ℕ → State → Range → List ℕ → Answer
 answer_write p image st r q = write_decided st r q (verdict_of (first_fault (write_checks (areas_of p) image r q)))
 
 unfoldable pub next_decided : Profile → List ℕ → State → Range → Verdict → Answer
-next_decided p image st r Granted = read_packet p image st r
-next_decided p image st r (Refused reason) = broken (com_number Read) st (Refused reason)
+next_decided p image st r (Ok tt) = read_packet p image st r
+next_decided p image st r (Err reason) = broken (com_number Read) st (Err reason)
 
 unfoldable pub answer_next : Profile → List ℕ → State → Range → List ℕ → Answer
 answer_next p image st r q = next_decided p image st r (verdict_of (first_fault (next_checks q)))

@@ -2,7 +2,6 @@
 #![tactic(auto)]
 
 ghost use Rattle.std.specs.Prelude.{◌≡◌, ◌+◌, ◌≤◌, ◌<◌, min};
-ghost use Rattle.verdict.specs.declared.Verdict.TheVariants.{Granted};
 ghost use Rattle.packet.specs.Frame.{longest_data, Roomy};
 ghost use Rattle.packet_fields.specs.Fields.{info_count};
 ghost use Rattle.answer.specs.Answer.{Answers};
@@ -16,7 +15,8 @@ use profile::Profile;
 use state::{Range, Stage, State};
 use verdict::Verdict;
 
-// What is left of a range after n bytes, where it goes on.
+// What is left of a range after n bytes, where it goes on. That it ends within 32 bits stays a clause: `Range` holds any numbers, since a state's bytes
+// from C may (`stage_in`), and `fits` judges them.
 fn rest(range: Range, n: u32) -> Range
     requires { (n < range.left) × (range.next + range.left ≤ 4294967296) }
     ensures { result ≡ rest_of range n }
@@ -31,13 +31,11 @@ fn rest(range: Range, n: u32) -> Range
 fn packet_size(left: u32) -> u32
     ensures { (result ≡ min left longest_data) × (result ≤ longest_data) × (result ≤ left) }
 {
-    if (left as usize) < LONGEST_DATA {
-        return left;
-    }
-    LONGEST_DATA as u32
+    left.min(LONGEST_DATA as u32)
 }
 
 // The next packet of a read.
+#[tactic(auto, using(crate::proofs::Reading::packet_fits))]
 pub fn read_packet(
     profile: Profile,
     image: &[u8],
@@ -50,32 +48,28 @@ pub fn read_packet(
 {
     let n = packet_size(range.left);
     let bytes = flash::fetch(image, profile, range.next, n as usize);
-    if range.left == n {
-        return send(reply, in_stage(state, Stage::Command), READ, bytes);
-    }
-    let going = Stage::Reading(rest(range, n));
-    send(reply, in_stage(state, going), READ, bytes)
+    let stage = if range.left == n {
+        Stage::Command
+    } else {
+        Stage::Reading(rest(range, n))
+    };
+    send(reply, in_stage(state, stage), READ, bytes)
 }
 
 // Write data that was granted: it is to be stored, and the write goes on or is over.
 fn accept_data(state: State, range: Range, packet: &[u8], reply: &mut [u8]) -> Answered
     requires { (info_count packet.now ≤ range.left) × (range.next + range.left ≤ 4294967296) × Roomy reply.old }
-    ensures { Answers (write_decided state range packet.now Granted) result reply.old reply.new }
+    ensures { Answers (write_decided state range packet.now (Ok tt)) result reply.old reply.new }
 {
     let count = packet_fields::info_count(packet);
     let n = count as u32;
     let act = Act::Store(range.next as usize, count);
-    if range.left == n {
-        return tell(
-            reply,
-            act,
-            in_stage(state, Stage::Command),
-            WRITE,
-            Verdict::Granted,
-        );
-    }
-    let going = Stage::Writing(rest(range, n));
-    tell(reply, act, in_stage(state, going), WRITE, Verdict::Granted)
+    let stage = if range.left == n {
+        Stage::Command
+    } else {
+        Stage::Writing(rest(range, n))
+    };
+    tell(reply, act, in_stage(state, stage), WRITE, Ok(()))
 }
 
 // What a complete packet in a write is answered.
@@ -90,16 +84,15 @@ pub fn answer_write(
     requires { (range.next + range.left ≤ 4294967296) × Roomy reply.old }
     ensures { Answers (answer_write profile image.now state range packet.now) result reply.old reply.new }
 {
-    let verdict = check_transfer::check_write(profile, image, range, packet);
-    match verdict {
-        Verdict::Refused(reason) => tell(
+    match check_transfer::check_write(profile, image, range, packet) {
+        Err(reason) => tell(
             reply,
             Act::Nothing,
             in_stage(state, Stage::Command),
             WRITE,
-            Verdict::Refused(reason),
+            Err(reason),
         ),
-        Verdict::Granted => accept_data(state, range, packet, reply),
+        Ok(()) => accept_data(state, range, packet, reply),
     }
 }
 
@@ -115,15 +108,14 @@ pub fn answer_next(
     requires { (range.next + range.left ≤ 4294967296) × Roomy reply.old }
     ensures { Answers (answer_next profile image.now state range packet.now) result reply.old reply.new }
 {
-    let verdict = check_transfer::check_next(packet);
-    match verdict {
-        Verdict::Refused(reason) => tell(
+    match check_transfer::check_next(packet) {
+        Err(reason) => tell(
             reply,
             Act::Nothing,
             in_stage(state, Stage::Command),
             READ,
-            Verdict::Refused(reason),
+            Err(reason),
         ),
-        Verdict::Granted => read_packet(profile, image, state, range, reply),
+        Ok(()) => read_packet(profile, image, state, range, reply),
     }
 }

@@ -13,7 +13,6 @@ use Rattle.packet.specs.Frame.{Roomy, front}
 use Rattle.flash.specs.declared.Act.TheVariants.{Nothing}
 use Rattle.state.specs.declared.Pulse.{Pulse}
 use Rattle.state.specs.declared.Pulse.TheVariants.{Zero, One, Acknowledged}
-use Rattle.state.specs.declared.Stage.{Stage}
 use Rattle.state.specs.declared.Stage.TheVariants.{Setting, Authentication, Command}
 use Rattle.state.specs.declared.State.{State}
 use Rattle.state.specs.State.{with_id}
@@ -37,12 +36,6 @@ pub went : {a : Answer} {r : Answered} {before : List ℕ} (st : State) (pulse :
     → r ≡ record { act = Nothing; state = moved (Setting pulse) st; count = 0 } → Answers a r before before
 went {before = before} st pulse e s =
     answers_as e (rw s (record { act = refl; state = refl; count = refl; reply = front_nothing before }))
-
--- the state in which the ID is latched; b is whether none is stored
-pub latched : (p : Profile) (image : List ℕ) (st : State) {id : List ℕ} {b : Bool} {stage : Stage} {next r : State} → id ≡ id_of (areas_of p) image
-    → b ≡ is_none id → stage ≡ cond b Command Authentication → next ≡ moved stage st → r ≡ with_id id next → r ≡ awake p image st
-unfolding awake
-latched p image st e f g h i = rw (i, h, g, f, e) refl
 
 -- what holds of both sides of a test holds of the side that it picks
 either : (P : Answer → Type 0) (a b : Answer) (t : Bool) → P a → P b → P (cond t a b)

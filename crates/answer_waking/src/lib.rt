@@ -3,7 +3,6 @@
 
 ghost use Rattle.std.specs.Prelude.{◌≡◌, [], ◌∷◌};
 ghost use Rattle.packet.specs.Frame.{Roomy};
-ghost use Rattle.state.specs.declared.Pulse.TheVariants.{Acknowledged};
 ghost use Rattle.state.specs.declared.Stage.TheVariants.{Setting};
 ghost use Rattle.flash.specs.declared.Act.TheVariants.{Nothing};
 ghost use Rattle.answer.specs.Answer.{moved, Answers};
@@ -15,6 +14,7 @@ use profile::Profile;
 use state::{Pulse, Stage, State};
 
 // One byte of answer.
+#[tactic(auto, using(crate::proofs::Woken::front_one))]
 fn say(reply: &mut [u8], state: State, byte: u8) -> Answered
     requires { Roomy reply.old }
     ensures { Answers (woken state (byte ∷ [])) result reply.old reply.new }
@@ -28,6 +28,7 @@ fn say(reply: &mut [u8], state: State, byte: u8) -> Answered
 }
 
 // The ID is latched, and with it the stage.
+#[tactic(auto, unfolding(crate::specs::Wake::awake))]
 fn awaken(profile: Profile, image: &[u8], state: State) -> State
     ensures { result ≡ awake profile image.now state }
 {
@@ -51,21 +52,8 @@ fn go(state: State, pulse: Pulse) -> Answered
     }
 }
 
-// After the acknowledgement.
-fn wake_third(profile: Profile, image: &[u8], state: State, byte: u8, reply: &mut [u8]) -> Answered
-    requires { Roomy reply.old }
-    ensures { Answers (wake_of profile image.now state Acknowledged byte) result reply.old reply.new }
-{
-    if byte == 0x55 {
-        return say(reply, awaken(profile, image, state), 0xC3);
-    }
-    if byte == 0x00 {
-        return go(state, Pulse::Acknowledged);
-    }
-    go(state, Pulse::Zero)
-}
-
 // One byte in setting.
+#[tactic(auto, using(answer::proofs::Sending::answers_as), unfolding(crate::specs::Wake::wake_of))]
 pub fn wake(
     profile: Profile,
     image: &[u8],
@@ -77,23 +65,15 @@ pub fn wake(
     requires { Roomy reply.old }
     ensures { Answers (wake_of profile image.now state pulse byte) result reply.old reply.new }
 {
-    match pulse {
-        Pulse::Zero => {
-            if byte == 0x00 {
-                return go(state, Pulse::One);
-            }
-            go(state, Pulse::Zero)
-        }
-        Pulse::One => {
-            if byte == 0x00 {
-                return say(
-                    reply,
-                    in_stage(state, Stage::Setting(Pulse::Acknowledged)),
-                    0x00,
-                );
-            }
-            go(state, Pulse::Zero)
-        }
-        Pulse::Acknowledged => wake_third(profile, image, state, byte, reply),
+    match (pulse, byte) {
+        (Pulse::Zero, 0x00) => go(state, Pulse::One),
+        (Pulse::One, 0x00) => say(
+            reply,
+            in_stage(state, Stage::Setting(Pulse::Acknowledged)),
+            0x00,
+        ),
+        (Pulse::Acknowledged, 0x55) => say(reply, awaken(profile, image, state), 0xC3),
+        (Pulse::Acknowledged, 0x00) => go(state, Pulse::Acknowledged),
+        _ => go(state, Pulse::Zero),
     }
 }

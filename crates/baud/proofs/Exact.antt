@@ -1,5 +1,5 @@
 -- A baud rate is granted exactly when BRT is not 0, is at most RMB, and the exact rate lies within 4 % of BRT. Assumes nothing.
-use mathlib.Core.Option.{none}
+use Rattle.std.specs.Prelude.{None}
 use mathlib.Core.Path.{◌≡◌}
 use Prim.Native.Nat.{ℕ, ◌*◌, ◌≤◌}
 use borrow.Author.Tests.{ltb-false, eqb-false, le-ltb, ne_eqb}
@@ -19,13 +19,13 @@ pub record RateFits (sci rmb brt : ℕ) : Type 0 where
   pub within : brt ≤ rmb
   pub near : 100 * apart_of (given_of sci brt) (wanted_of sci brt) ≤ 4 * wanted_of sci brt
 
-pub granted_fits : (sci rmb brt : ℕ) → first_fault (rate_checks sci rmb brt) ≡ none → RateFits sci rmb brt
+pub granted_fits : (sci rmb brt : ℕ) → first_fault (rate_checks sci rmb brt) ≡ None → RateFits sci rmb brt
 unfolding NoneApplies rate_checks rate_off
 granted_fits sci rmb brt e =
     let quiet = clear (rate_checks sci rmb brt) e in
     record { nonzero = eqb-false brt 0 quiet.0; within = ltb-false rmb brt quiet.1.0; near = ltb-false _ _ quiet.1.1.0 }
 
-pub fits_granted : (sci rmb brt : ℕ) → RateFits sci rmb brt → first_fault (rate_checks sci rmb brt) ≡ none
+pub fits_granted : (sci rmb brt : ℕ) → RateFits sci rmb brt → first_fault (rate_checks sci rmb brt) ≡ None
 unfolding NoneApplies rate_checks rate_off
 fits_granted sci rmb brt fits =
     grants (rate_checks sci rmb brt)

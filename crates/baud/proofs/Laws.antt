@@ -1,13 +1,12 @@
 -- Laws on products that must fit, and on the steps of the definitions. Assumes nothing.
 use mathlib.Core.Path.{◌≡◌}
-use Prim.Native.Nat.{ℕ, ◌+◌, ◌-◌, ◌*◌, ◌/◌, ◌^◌, ◌≤◌, ◌<◌, min}
+use Prim.Native.Nat.{ℕ, ◌+◌, ◌*◌, ◌/◌, ◌^◌, ◌≤◌, ◌<◌}
 use native.Mathlib.Nat.{mul-le-mul}
 use native.Mathlib.Omega.{arith}
 use lib.Dec.{ltb}
-use borrow.Author.Tests.{lt-ltb, le-ltb}
 use Rattle.baud.specs.declared.Clocking.{Clocking}
 use Rattle.baud.specs.declared.LineSetting.{LineSetting}
-use Rattle.baud.specs.Rate.{Clocked, clocking_of, divisor_of, rough_m, counted_m, held_m, setting_of, apart_of, rate_off}
+use Rattle.baud.specs.Rate.{clocking_of, divisor_of, rough_m, counted_m, held_m, setting_of, apart_of, rate_off}
 
 -- a product is bounded by the product of its factors' bounds
 pub product : (most more : ℕ) {a b : ℕ} → a ≤ most → b ≤ more → a * b ≤ most * more
@@ -24,16 +23,6 @@ scaled more {rate} small below = let most : rate ≤ 4294967295 = omega arith in
 -- the exact rate and BRT, both times the divisor
 pub both_below : {sci brt over counts : ℕ} → sci < 2 ^ 32 → brt < 2 ^ 32 → over ≤ 2097152 → counts ≤ 256 → (sci * counts < 2 ^ 40) × (brt * over < 2 ^ 53)
 both_below s b o c = (omega (arith, scaled 256 s c), omega (arith, scaled 2097152 b o))
-
--- SCI below 32 x BRT
-pub clocked_fast : (sci brt : ℕ) → sci < 32 * brt → Clocked sci brt (record { abcs = 1; d = 16; brr = 0 })
-unfolding clocking_of
-clocked_fast sci brt below = record { is = simp (lt-ltb _ _ below); d = omega arith; brr = omega arith }
-
--- SCI at least 32 x BRT
-pub clocked_slow : (sci brt brr : ℕ) → 32 * brt ≤ sci → brr ≡ min (sci / (32 * brt) - 1) 255 → Clocked sci brt (record { abcs = 0; d = 32; brr = brr })
-unfolding clocking_of
-clocked_slow sci brt brr reached is = record { is = simp (le-ltb _ _ reached, is); d = omega arith; brr = omega arith }
 
 -- the test for 4 %, from the values that it is worked out from
 pub off_is : (sci brt : ℕ) (k : Clocking) (over m counts between : ℕ)

@@ -3,10 +3,9 @@ use mathlib.Core.List.{List, [], ◌∷◌, map}
 use mathlib.Core.Path.{◌≡◌, refl}
 use Prim.Native.Nat.{ℕ}
 use Rattle.verdict.specs.declared.Reason.TheVariants.{RateOff}
-use Rattle.verdict.specs.declared.Verdict.{Verdict}
-use Rattle.verdict.specs.declared.Verdict.TheVariants.{Granted, Refused}
-use Rattle.verdict.specs.Check.{first_fault, verdict_of}
+use Rattle.verdict.specs.Check.{first_fault, verdict_of, Verdict}
 use Rattle.baud.specs.declared.LineSetting.{LineSetting}
+use Rattle.std.specs.Prelude.{Ok, Err}
 use Rattle.baud.specs.Rate.{clocking_of, rough_m, held_m, counted_m, setting_of, rate_off, rate_checks}
 
 pub record Row : Type 0 where
@@ -38,11 +37,11 @@ pub record Asked : Type 0 where
 -- 3,906,250 is off by exactly 4 %
 abbrev pub asked : List Asked
 asked =
-    record { brt = 3500; answer = Refused RateOff }
-    ∷ record { brt = 3600; answer = Granted }
-    ∷ record { brt = 3906250; answer = Granted }
-    ∷ record { brt = 3906251; answer = Refused RateOff }
-    ∷ record { brt = 4000000; answer = Refused RateOff } ∷ []
+    record { brt = 3500; answer = Err RateOff }
+    ∷ record { brt = 3600; answer = (Ok tt) }
+    ∷ record { brt = 3906250; answer = (Ok tt) }
+    ∷ record { brt = 3906251; answer = Err RateOff }
+    ∷ record { brt = 4000000; answer = Err RateOff } ∷ []
 
 pub verdicts : map (λ (a : Asked). verdict_of (first_fault (rate_checks 60000000 4000000 a.brt))) asked ≡ map (λ (a : Asked). a.answer) asked
 unfolding first_fault rate_checks rate_off clocking_of rough_m counted_m

@@ -2,7 +2,7 @@
 use mathlib.Core.Bool.{true, false}
 use mathlib.Core.List.{List}
 use mathlib.Core.Logic.{◌⊎◌, inl, inr}
-use mathlib.Core.Option.{none}
+use Rattle.std.specs.Prelude.{None}
 use mathlib.Core.Path.{◌≡◌, refl, sym, ap, ◌∙◌}
 use Prim.Native.Nat.{ℕ}
 use native.Mathlib.Omega.{arith}
@@ -41,7 +41,7 @@ permitting Command n e = inr refl
 permitting (Writing r) n e = absurd (apart e)
 permitting (Reading r) n e = absurd (apart e)
 
-pub formed : (stage : Stage) (n : ℕ) (cmd : Com) (count : ℕ) → first_fault (form_checks stage n cmd count) ≡ none → Formed stage n cmd count
+pub formed : (stage : Stage) (n : ℕ) (cmd : Com) (count : ℕ) → first_fault (form_checks stage n cmd count) ≡ None → Formed stage n cmd count
 unfolding form_checks NoneApplies
 formed stage n cmd count g =
     let k : NoneApplies (form_checks stage n cmd count) = clear (form_checks stage n cmd count) g in
@@ -51,21 +51,21 @@ formed stage n cmd count g =
       staged = k.1.1.0;
     }
 
-module _ (p : Profile) (st : State) (q : List ℕ) (granted : first_fault (command_checks p st q) ≡ none) where
+module _ (p : Profile) (st : State) (q : List ℕ) (granted : first_fault (command_checks p st q) ≡ None) where
   -- the three parts of its checks are clear
-  pub ending_clear : first_fault (ending_checks q) ≡ none
+  pub ending_clear : first_fault (ending_checks q) ≡ None
   unfolding command_checks
   ending_clear = clear_left (ending_checks q) (known_checks p st q) granted
 
-  known_clear : first_fault (known_checks p st q) ≡ none
+  known_clear : first_fault (known_checks p st q) ≡ None
   unfolding command_checks
   known_clear = clear_right (ending_checks q) (known_checks p st q) granted
 
-  pub form_clear : first_fault (form_checks st.stage (code_at q) (com_of (code_at q)) (info_count q)) ≡ none
+  pub form_clear : first_fault (form_checks st.stage (code_at q) (com_of (code_at q)) (info_count q)) ≡ None
   unfolding known_checks
   form_clear = clear_left (form_checks st.stage (code_at q) (com_of (code_at q)) (info_count q)) (own_checks p st (com_of (code_at q)) q) known_clear
 
-  pub own_clear : first_fault (own_checks p st (com_of (code_at q)) q) ≡ none
+  pub own_clear : first_fault (own_checks p st (com_of (code_at q)) q) ≡ None
   unfolding known_checks
   own_clear = clear_right (form_checks st.stage (code_at q) (com_of (code_at q)) (info_count q)) (own_checks p st (com_of (code_at q)) q) known_clear
 
@@ -82,7 +82,7 @@ module _ (p : Profile) (st : State) (q : List ℕ) (granted : first_fault (comma
   pub in_command : st.stage ≡ Command → code_at q ≡ 0x30 → ⊥
   in_command e = eqb-false (code_at q) 0x30 (ap (λ (s : Stage). stage_wrong s (code_at q)) (sym e) ∙ granted_form.staged)
 
-  pub own_of : (cmd : Com) → com_of (code_at q) ≡ cmd → first_fault (own_checks p st cmd q) ≡ none
+  pub own_of : (cmd : Com) → com_of (code_at q) ≡ cmd → first_fault (own_checks p st cmd q) ≡ None
   own_of cmd e = ap (λ (k : Com). first_fault (own_checks p st k q)) (sym e) ∙ own_clear
 
   -- its range is permitted

@@ -1,12 +1,11 @@
 -- A command of the right length has every byte that its own checks read. Assumes nothing.
 use mathlib.Core.List.{List}
 use mathlib.Core.Logic.{◌⊎◌, ⊎_elim}
-use mathlib.Core.Option.{none}
+use Rattle.std.specs.Prelude.{None, Some}
 use mathlib.Core.Path.{◌≡◌, ap, ◌∙◌}
 use Prim.Native.Nat.{ℕ}
 use native.Mathlib.Omega.{arith}
 use lib.ListN.{length, get_or}
-use Rattle.numbers.specs.declared.Number.TheVariants.{Is}
 use Rattle.numbers.specs.Bytes.{number, field, number_at}
 use Rattle.numbers.proofs.There.{entry_there, number_there}
 use Rattle.verdict.specs.Check.{first_fault}
@@ -22,7 +21,7 @@ use Rattle.check_command.proofs.Granted.{formed}
 abbrev pub NamesRange : Com → Type 0
 NamesRange cmd = (cmd ≡ Erase) ⊎ ((cmd ≡ Write) ⊎ (cmd ≡ Read))
 
-module _ (stage : Stage) (q : List ℕ) (right : first_fault (form_checks stage (code_at q) (com_of (code_at q)) (info_count q)) ≡ none) where
+module _ (stage : Stage) (q : List ℕ) (right : first_fault (form_checks stage (code_at q) (com_of (code_at q)) (info_count q)) ≡ None) where
   abbrev cmd : Com
   cmd = com_of (code_at q)
 
@@ -34,13 +33,13 @@ module _ (stage : Stage) (q : List ℕ) (right : first_fault (form_checks stage 
   range_long names = ⊎_elim (long Erase) (λ later. ⊎_elim (long Write) (long Read) later) names
 
   -- SAD and EAD of a range, BRT of a rate: neither is cut short
-  pub sad_there : NamesRange cmd → number_at 4 q 4 ≡ Is (number (field 4 4 q))
+  pub sad_there : NamesRange cmd → number_at 4 q 4 ≡ Some (number (field 4 4 q))
   sad_there names = number_there 4 4 q (omega (arith, range_long names))
 
-  pub ead_there : NamesRange cmd → number_at 4 q 8 ≡ Is (number (field 4 8 q))
+  pub ead_there : NamesRange cmd → number_at 4 q 8 ≡ Some (number (field 4 8 q))
   ead_there names = number_there 4 8 q (omega (arith, range_long names))
 
-  pub brt_there : cmd ≡ Baud → number_at 4 q 4 ≡ Is (number (field 4 4 q))
+  pub brt_there : cmd ≡ Baud → number_at 4 q 4 ≡ Some (number (field 4 4 q))
   brt_there e = number_there 4 4 q (omega (arith, long Baud e))
 
   -- an area's number is there, whatever stands for one that is not

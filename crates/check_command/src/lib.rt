@@ -6,65 +6,49 @@ ghost use Rattle.profile.specs.Areas.{areas_of};
 ghost use Rattle.profile_ranges.specs.Ranges.{range_checks};
 ghost use Rattle.verdict.specs.Check.{first_fault, verdict_of};
 ghost use Rattle.packet_fields.specs.Fields.{sad_of, ead_of};
-ghost use Rattle.check_command.specs.Commands.{is_unknown, stage_wrong, form_checks, area_number_checks, own_checks, known_checks, command_checks};
+ghost use Rattle.check_command.specs.Commands.{stage_wrong, form_checks, area_number_checks, own_checks, known_checks, command_checks};
 
-use packet_fields::{AUTHENTICATE, Com, byte_at, com_of, four_at, info, info_count, info_length};
+use packet_fields::{AUTHENTICATE, Com, byte_at, four_at, info, info_count, info_length};
 use profile::{Profile, Window};
 use profile_ranges::Purpose;
 use state::{Stage, State};
 use verdict::{Reason, Verdict};
-
-fn is_unknown(cmd: Com) -> bool
-    ensures { result ≡ is_unknown cmd }
-{
-    match cmd {
-        Com::Inquiry => false,
-        Com::Erase => false,
-        Com::Write => false,
-        Com::Read => false,
-        Com::Authenticate => false,
-        Com::Baud => false,
-        Com::Signature => false,
-        Com::Area => false,
-        Com::Unknown => true,
-    }
-}
 
 // Whether the stage does not permit the command: authenticate is 30h.
 fn is_stage_wrong(stage: Stage, code: u8) -> bool
     ensures { result ≡ stage_wrong stage code }
 {
     match stage {
-        Stage::Setting(_) => true,
         Stage::Authentication => code != AUTHENTICATE,
         Stage::Command => code == AUTHENTICATE,
-        Stage::Writing(_) => true,
-        Stage::Reading(_) => true,
+        Stage::Setting(_) | Stage::Writing(_) | Stage::Reading(_) => true,
     }
 }
 
+#[tactic(auto, unfolding(verdict::specs::Check::first_fault, crate::specs::Commands::form_checks))]
 fn check_form(stage: Stage, code: u8, cmd: Com, count: usize) -> Verdict
     ensures { result ≡ verdict_of (first_fault (form_checks stage code cmd count)) }
 {
-    if is_unknown(cmd) {
-        return Verdict::Refused(Reason::UnknownCommand);
+    if matches!(cmd, Com::Unknown) {
+        return Err(Reason::UnknownCommand);
     }
     if count != info_length(cmd) {
-        return Verdict::Refused(Reason::WrongLength);
+        return Err(Reason::WrongLength);
     }
     if is_stage_wrong(stage, code) {
-        return Verdict::Refused(Reason::WrongStage);
+        return Err(Reason::WrongStage);
     }
-    Verdict::Granted
+    Ok(())
 }
 
+#[tactic(auto, unfolding(verdict::specs::Check::first_fault, crate::specs::Commands::area_number_checks))]
 fn check_area_number(noa: u8, packet: &[u8]) -> Verdict
     ensures { result ≡ verdict_of (first_fault (area_number_checks noa packet.now)) }
 {
     if noa <= byte_at(packet, 4) {
-        return Verdict::Refused(Reason::NoSuchArea);
+        return Err(Reason::NoSuchArea);
     }
-    Verdict::Granted
+    Ok(())
 }
 
 // The range from SAD to EAD of a command.
@@ -76,46 +60,37 @@ fn check_span(profile: Profile, window: Window, purpose: Purpose, packet: &[u8])
     profile_ranges::check_range(profile, window, purpose, sad, ead)
 }
 
+#[tactic(auto, unfolding(verdict::specs::Check::first_fault, crate::specs::Commands::own_checks))]
 fn check_own(profile: Profile, state: State, cmd: Com, packet: &[u8]) -> Verdict
     ensures { result ≡ verdict_of (first_fault (own_checks profile state cmd packet.now)) }
 {
     let window = state::window(profile, state);
     match cmd {
-        Com::Inquiry => Verdict::Granted,
         Com::Erase => check_span(profile, window, Purpose::Erase, packet),
         Com::Write => check_span(profile, window, Purpose::Write, packet),
         Com::Read => check_span(profile, window, Purpose::Read, packet),
-        Com::Authenticate => {
-            let id = state.id;
-            id_code::check_id(id, info(packet))
-        }
+        Com::Authenticate => id_code::check_id(state.id, info(packet)),
         Com::Baud => baud::check_rate(profile.sci, profile.rmb, four_at(packet, 4)),
-        Com::Signature => Verdict::Granted,
         Com::Area => check_area_number(profile.noa, packet),
-        Com::Unknown => Verdict::Granted,
+        Com::Inquiry | Com::Signature | Com::Unknown => Ok(()),
     }
 }
 
+#[tactic(auto, using(verdict::proofs::FirstFault::granted_then), unfolding(crate::specs::Commands::known_checks))]
 fn check_known(profile: Profile, state: State, packet: &[u8]) -> Verdict
     ensures { result ≡ verdict_of (first_fault (known_checks profile state packet.now)) }
 {
     let code = byte_at(packet, 3);
-    let cmd = com_of(code);
-    let stage = state.stage;
-    let form = check_form(stage, code, cmd, info_count(packet));
-    match form {
-        Verdict::Refused(reason) => Verdict::Refused(reason),
-        Verdict::Granted => check_own(profile, state, cmd, packet),
-    }
+    let cmd = Com::from(code);
+    check_form(state.stage, code, cmd, info_count(packet))?;
+    check_own(profile, state, cmd, packet)
 }
 
 // What a complete command is answered.
+#[tactic(auto, using(verdict::proofs::FirstFault::granted_then), unfolding(crate::specs::Commands::command_checks))]
 pub fn check_command(profile: Profile, state: State, packet: &[u8]) -> Verdict
     ensures { result ≡ verdict_of (first_fault (command_checks profile state packet.now)) }
 {
-    let ending = packet::check_ending(packet);
-    match ending {
-        Verdict::Refused(reason) => Verdict::Refused(reason),
-        Verdict::Granted => check_known(profile, state, packet),
-    }
+    packet::check_ending(packet)?;
+    check_known(profile, state, packet)
 }

@@ -8,14 +8,14 @@ use native.Mathlib.Nat.{zero-add, mod-add-mod}
 use native.Mathlib.Omega.{arith}
 use Rattle.profile.specs.declared.Area.{Area}
 use Rattle.profile.specs.declared.Window.{Window}
-use Rattle.profile.specs.declared.Place.TheVariants.{In}
-use Rattle.profile.specs.declared.Place.{Place}
 use Rattle.profile.specs.Places.{place_of, unit_at}
 use Rattle.profile.proofs.Places.{Above, whole_area}
 use Rattle.profile_ranges.specs.declared.Purpose.TheVariants.{Write}
 use Rattle.profile_ranges.specs.InArea.{Lies}
 use Rattle.profile_ranges.specs.Ranges.{Permitted}
 use Rattle.profile_ranges.proofs.Granted.{in_area_lem}
+use Rattle.std.specs.Prelude.{Option, Some}
+use Rattle.profile.specs.declared.Spot.{Spot}
 use Rattle.check_transfer.specs.Transfer.{unit_before}
 
 -- n bytes at the start of a range that may be written
@@ -26,7 +26,7 @@ module _ (areas : List Area) (ascend : Above 0 areas) (w : Window) (s e n : ℕ)
   pub same_unit : unit_before areas (s + n) ≡ unit_at (place_of areas s)
   same_unit =
       let i = lies.in_area in
-      let last : place_of areas (s + n - 1) ≡ In lies.spot = whole_area 0 0 areas s lies.spot ascend i.found (s + n - 1) (omega (arith, i.starts)) (omega (arith, i.ends)) in
+      let last : place_of areas (s + n - 1) ≡ Some lies.spot = whole_area 0 0 areas s lies.spot ascend i.found (s + n - 1) (omega (arith, i.starts)) (omega (arith, i.ends)) in
       ap unit_at (last ∙ sym i.found)
 
   -- a write is permitted only where there is a unit: no remainder by 0 is taken, and the blank search takes no 0 for 1
@@ -36,7 +36,7 @@ module _ (areas : List Area) (ascend : Above 0 areas) (w : Window) (s e n : ℕ)
       omega (arith, same_unit)
 
   aligned : s % unit_at (place_of areas s) ≡ 0
-  aligned = ap (λ (p : Place). s % unit_at p) lies.in_area.found ∙ lies.allowed.first
+  aligned = ap (λ (p : Option Spot). s % unit_at p) lies.in_area.found ∙ lies.allowed.first
 
   rest : (s + n) % unit_at (place_of areas s) ≡ n % unit_at (place_of areas s)
   rest =

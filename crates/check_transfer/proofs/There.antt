@@ -10,7 +10,6 @@ use borrow.Author.Tests.{eqb-true, eqb-false}
 use Rattle.numbers.proofs.There.{entry_there}
 use Rattle.profile.specs.declared.Area.{Area}
 use Rattle.profile.specs.declared.Window.{Window}
-use Rattle.profile.specs.declared.Place.TheVariants.{In}
 use Rattle.profile.specs.Areas.{total_of}
 use Rattle.profile.specs.Places.{place_of}
 use Rattle.profile.proofs.Places.{Above, whole_area}
@@ -20,6 +19,7 @@ use Rattle.profile_ranges.specs.Ranges.{Permitted}
 use Rattle.profile_ranges.proofs.Granted.{in_area_lem}
 use Rattle.packet_fields.specs.Fields.{info_count}
 use Rattle.flash.specs.Effects.{fetched}
+use Rattle.std.specs.Prelude.{Some}
 use Rattle.flash.proofs.ByAddress.{fetched_most, fetched_whole}
 
 -- n bytes from address x on, of the range s to e
@@ -34,7 +34,7 @@ part_whole areas ascend w purpose s e permits image whole x n from to = by (eqb 
         let l : Lies areas w purpose s e = in_area_lem areas w purpose s e permits in
         let low : l.spot.area.sad ≤ x = omega (arith, l.in_area.starts) in
         let high : x ≤ l.spot.area.ead = omega (arith, l.in_area.ends) in
-        let found : place_of areas x ≡ In l.spot = whole_area 0 0 areas s l.spot ascend l.in_area.found x low high in
+        let found : place_of areas x ≡ Some l.spot = whole_area 0 0 areas s l.spot ascend l.in_area.found x low high in
         fetched_whole areas x n image l.spot found whole (omega (arith, l.in_area.ends))
 
 -- the byte that asks for the next packet is looked at only where there is one byte of information

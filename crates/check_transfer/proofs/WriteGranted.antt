@@ -1,7 +1,7 @@
 -- What a packet that is granted in a write or in a read is. Assumes nothing.
 use mathlib.Core.Bool.{true, false, ◌&&◌}
 use mathlib.Core.List.{List}
-use mathlib.Core.Option.{none}
+use Rattle.std.specs.Prelude.{None, Option, Some}
 use mathlib.Core.Path.{◌≡◌, refl}
 use Prim.Native.Nat.{ℕ, ◌+◌, ◌%◌, ◌≤◌}
 use lib.ListN.{get_or}
@@ -13,8 +13,6 @@ use Rattle.verdict.proofs.FirstFault.{clear, clear_left, clear_right}
 use Rattle.profile.specs.declared.Area.{Area}
 use Rattle.packet.specs.Packet.{ending_checks}
 use Rattle.packet.proofs.Laws.{impossible, both}
-use Rattle.flash_blank.specs.declared.Search.{Search}
-use Rattle.flash_blank.specs.declared.Search.TheVariants.{Clean, Dirty}
 use Rattle.flash.specs.Effects.{fetched}
 use Rattle.flash_blank.specs.Blank.{searched}
 use Rattle.state.specs.declared.Range.{Range}
@@ -22,12 +20,12 @@ use Rattle.packet_fields.specs.Fields.{code_at, info_count}
 use Rattle.check_transfer.proofs.TransferLaws.{amount_code, amount_any, amount_most}
 use Rattle.check_transfer.specs.Transfer.{is_dirty, amount_checks, unit_before, units_checks, target_checks, write_checks, asks_next, next_checks}
 
-is_clean : (s : Search) → is_dirty s ≡ false → s ≡ Clean
-is_clean Clean e = refl
-is_clean (Dirty n) e = impossible (cc)
+is_clean : (s : Option ℕ) → is_dirty s ≡ false → s ≡ None
+is_clean None e = refl
+is_clean (Some n) e = impossible (cc)
 
 -- a packet that is granted in a write
-module _ (areas : List Area) (image : List ℕ) (r : Range) (q : List ℕ) (granted : first_fault (write_checks areas image r q) ≡ none) where
+module _ (areas : List Area) (image : List ℕ) (r : Range) (q : List ℕ) (granted : first_fault (write_checks areas image r q) ≡ None) where
   -- WAU of the area in which the packet's last byte goes, and the checks with it
   abbrev unit : ℕ
   unit = unit_before areas (r.next + info_count q)
@@ -35,15 +33,15 @@ module _ (areas : List Area) (image : List ℕ) (r : Range) (q : List ℕ) (gran
   abbrev units : List (Check Reason)
   units = units_checks areas image r.next (info_count q) unit
 
-  pub write_ends : first_fault (ending_checks q) ≡ none
+  pub write_ends : first_fault (ending_checks q) ≡ None
   unfolding write_checks
   write_ends = clear_left (ending_checks q) (target_checks areas image r q) granted
 
-  target_clear : first_fault (target_checks areas image r q) ≡ none
+  target_clear : first_fault (target_checks areas image r q) ≡ None
   unfolding write_checks
   target_clear = clear_right (ending_checks q) (target_checks areas image r q) granted
 
-  amount : first_fault (amount_checks r.left q) ≡ none
+  amount : first_fault (amount_checks r.left q) ≡ None
   unfolding target_checks
   amount = clear_left (amount_checks r.left q) units target_clear
 
@@ -64,13 +62,13 @@ module _ (areas : List Area) (image : List ℕ) (r : Range) (q : List ℕ) (gran
   unfolding units_checks NoneApplies
   write_units = eqb-true ((r.next + info_count q) % unit) 0 (not-false (eqb ((r.next + info_count q) % unit) 0) units_clear.0)
 
-  pub write_blank : searched (unit_before areas (r.next + info_count q)) (fetched areas r.next (info_count q) image) ≡ Clean
+  pub write_blank : searched (unit_before areas (r.next + info_count q)) (fetched areas r.next (info_count q) image) ≡ None
   unfolding units_checks NoneApplies
   write_blank = is_clean (searched unit (fetched areas r.next (info_count q) image)) units_clear.1.0
 
 -- a packet that is granted in a read
-module _ (q : List ℕ) (granted : first_fault (next_checks q) ≡ none) where
-  pub next_ends : first_fault (ending_checks q) ≡ none
+module _ (q : List ℕ) (granted : first_fault (next_checks q) ≡ None) where
+  pub next_ends : first_fault (ending_checks q) ≡ None
   unfolding next_checks
   next_ends = clear_left (ending_checks q) _ granted
 

@@ -1,22 +1,20 @@
 -- The packets of a write and of a read that is under way: their checks in order.
-use Rattle.std.specs.Prelude.{Bool, true, false, ◌&&◌, not, List, [], ◌∷◌, ◌++◌, ℕ, ◌+◌, ◌-◌, ◌%◌, get_or, ltb, eqb}
+use Rattle.std.specs.Prelude.{Bool, true, false, ◌&&◌, not, List, [], ◌∷◌, ◌++◌, ℕ, ◌+◌, ◌-◌, ◌%◌, get_or, ltb, eqb, Option, Some, None}
 use Rattle.verdict.specs.declared.Reason.{Reason}
 use Rattle.verdict.specs.declared.Reason.TheVariants.{NotWriteData, NoData, TooMuchData, BrokenUnit, DirtyFlash, NotNextRequest}
 use Rattle.verdict.specs.Check.{Check, ◌gives◌}
 use Rattle.profile.specs.declared.Area.{Area}
 use Rattle.profile.specs.Places.{place_of, unit_at}
 use Rattle.packet.specs.Packet.{ending_checks}
-use Rattle.flash_blank.specs.declared.Search.{Search}
-use Rattle.flash_blank.specs.declared.Search.TheVariants.{Clean, Dirty}
 use Rattle.flash.specs.Effects.{fetched}
 use Rattle.flash_blank.specs.Blank.{searched}
 use Rattle.state.specs.declared.Range.{Range}
 use Rattle.packet_fields.specs.declared.Com.TheVariants.{Write, Read}
 use Rattle.packet_fields.specs.Fields.{com_number, code_at, info_count}
 
-abbrev pub is_dirty : Search → Bool
-is_dirty Clean = false
-is_dirty (Dirty n) = true
+abbrev pub is_dirty : Option ℕ → Bool
+is_dirty None = false
+is_dirty (Some n) = true
 
 -- RES and the amount
 unfoldable pub amount_checks : ℕ → List ℕ → List (Check Reason)

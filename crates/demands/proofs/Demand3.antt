@@ -11,7 +11,6 @@ use Rattle.state.specs.declared.State.{State}
 use Rattle.state.specs.State.{fresh_state}
 use Rattle.record_replay.specs.Replay.{replay}
 use Rattle.record_replay.proofs.Laws.{unanswered_unseen, restart_unseen, units_unseen}
-use Rattle.device_calls.specs.declared.Refusal.TheVariants.{Accepted}
 use Rattle.device_calls.specs.Calls.{feed_refusal}
 use Rattle.device_calls.proofs.Rows.{start_accepts}
 use Rattle.device_steps.specs.Step.{Machine}
@@ -25,6 +24,7 @@ use Rattle.demands.specs.Demand3.{reached, left, NextAccepted, FromStart, kept_s
 use Rattle.demands.proofs.Rows.{start_refusal_lem, start_fresh}
 use Rattle.demands.proofs.Lines.{record_is, record_once}
 use Rattle.demands.proofs.Sessions.{calls_history}
+use Rattle.std.specs.Prelude.{Ok}
 use Rattle.demands.proofs.Requests.{record_requests}
 
 next_accepted : (p : Profile) → Acceptable p → (image : List ℕ) → length image ≡ total_of (areas_of p) → (calls : List Call)
@@ -43,7 +43,7 @@ module _ (p : Profile) (image receive : List ℕ) (turns : List Turn) (f : FromS
   flash_kept : (kept_since f).image ≡ replay (areas_of p) image (left p image (history_of turns))
   flash_kept = ap (λ (m : Machine). m.image) kept_machine ∙ replayed p image (history_of turns)
 
-  next_kept : (reply : List ℕ) → Roomy (kept_since f).receive → Roomy reply → feed_refusal p (kept_since f).state (lent_by (kept_since f) reply) ≡ Accepted
+  next_kept : (reply : List ℕ) → Roomy (kept_since f).receive → Roomy reply → feed_refusal p (kept_since f).state (lent_by (kept_since f) reply) ≡ Ok tt
   next_kept reply wide long =
       let next : NextAccepted p (machine_in (kept_since f)) =
       subst (NextAccepted p) (sym kept_machine) (next_accepted p f.acceptable image f.fits (history_of turns)) in

@@ -8,7 +8,6 @@ use Rattle.profile.specs.declared.Profile.{Profile}
 use Rattle.packet.specs.Packet.{progress_of}
 use Rattle.packet.specs.Frame.{front}
 use Rattle.state.specs.declared.State.{State}
-use Rattle.device_calls.specs.declared.Refusal.TheVariants.{Accepted}
 use Rattle.device_calls.specs.Calls.{Lent}
 use Rattle.device_calls.specs.Ready.{Ready}
 use Rattle.device_calls.proofs.Rows.{rows_ready}
@@ -17,7 +16,6 @@ use Rattle.device_steps.specs.Feed.{Delivery, feed_of}
 use Rattle.device.specs.declared.Fed.{Fed}
 use Rattle.device.specs.Post.{Ran, Feeds}
 use Rattle.host_request.specs.declared.Request.{Request}
-use Rattle.host_request.specs.declared.Built.TheVariants.{Is}
 use Rattle.host_request.specs.Request.{packet_for, InWidth}
 use Rattle.host_request.specs.Build.{Builds}
 use Rattle.host_request.proofs.Packets as packets
@@ -34,12 +32,13 @@ use Rattle.host_device.proofs.Telling as telling
 use Rattle.host_device.proofs.Known.{sci_known, area_known}
 use Rattle.host_device.proofs.Writing.{within}
 use Rattle.demands.specs.Host.{HostEnd}
+use Rattle.std.specs.Prelude.{Ok}
 use Rattle.demands.proofs.Rows.{feed_refusal_lem, feed_ran}
 
 -- a call that was accepted, with a packet that was built for a device which holds nothing and awaits it
 module _ (p : Profile) (st : State) (request : Request) (bytes buffer packet : List ℕ) (n : ℕ) (before after : Lent) (r : Fed)
     (width : InWidth request) (step : InStep request st.stage) (idle : st.held ≡ 0)
-    (b : Builds request bytes buffer packet (Is n)) (f : Feeds p st (take n packet) before after r) (accepted : r.refusal ≡ Accepted) where
+    (b : Builds request bytes buffer packet (Ok n)) (f : Feeds p st (take n packet) before after r) (accepted : r.refusal ≡ Ok tt) where
   abbrev m : Machine
   m = machine_of st before
 
@@ -62,15 +61,15 @@ module _ (p : Profile) (st : State) (request : Request) (bytes buffer packet : L
         idle = none_held;
         step = step;
         width = width;
-        buildable = outcome.built_buildable request bytes buffer packet (Is n) b n refl;
+        buildable = outcome.built_buildable request bytes buffer packet (Ok n) b n refl;
       }
 
   -- what was fed is its packet, so what was left is its delivery
   ran : Ran d (packet_for request bytes) before after r
-  ran = subst (λ (q : List ℕ). Ran (feed_of p m q) q before after r) (outcome.built_front request bytes buffer packet (Is n) b n refl) (feed_ran f accepted)
+  ran = subst (λ (q : List ℕ). Ran (feed_of p m q) q before after r) (outcome.built_front request bytes buffer packet (Ok n) b n refl) (feed_ran f accepted)
 
   consumed : r.consumed ≡ n
-  consumed = ap (λ (x : Fed). x.consumed) ran.is ∙ (agrees p m request bytes sent).consumed ∙ sym ((outcome.built_exactly request bytes buffer packet (Is n) b n).0 refl).1
+  consumed = ap (λ (x : Fed). x.consumed) ran.is ∙ (agrees p m request bytes sent).consumed ∙ sym ((outcome.built_exactly request bytes buffer packet (Ok n) b n).0 refl).1
 
   count : r.count ≡ length d.reply
   count = ap (λ (x : Fed). x.count) ran.is

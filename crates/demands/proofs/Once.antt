@@ -8,9 +8,7 @@ use lib.Seq.{length-take-le, take-append_seam}
 use Rattle.profile.specs.declared.Profile.{Profile}
 use Rattle.packet.specs.Frame.{longest_packet, front}
 use Rattle.state.specs.declared.State.{State}
-use Rattle.device_calls.specs.declared.Refusal.{Refusal}
-use Rattle.device_calls.specs.declared.Refusal.TheVariants.{Accepted, By}
-use Rattle.device_calls.specs.Calls.{Lent, buffers, feed_refusal}
+use Rattle.device_calls.specs.Calls.{Lent, buffers, feed_refusal, Refusal}
 use Rattle.device_calls.specs.Ready.{Ready}
 use Rattle.device_calls.proofs.Rows.{rows_ready}
 use Rattle.device_steps.specs.Step.{machine_of}
@@ -21,6 +19,7 @@ use Rattle.device_steps.proofs.Kept.{feed_fits, machine_fits, held_short}
 use Rattle.device.specs.declared.Fed.{Fed}
 use Rattle.device.specs.Post.{FedBy, Feeds}
 use Rattle.device.proofs.Turns.{feeds}
+use Rattle.std.specs.Prelude.{Ok, Err}
 use Rattle.demands.specs.Demand2.{SameOutcome, Outcome}
 
 held_is : {r r' : Fed} → r ≡ r' → (rc : List ℕ) → take r.state.held rc ≡ take r'.state.held rc
@@ -29,14 +28,14 @@ held_is e rc = ap (λ (x : Fed). take x.state.held rc) e
 -- feeding, for the same state and buffers at entry
 module _ (d : Delivery) (input : List ℕ) (st : State) (before after after' : Lent) (r r' : Fed) where
   fed_once : (refusal : Refusal) → FedBy refusal d input st before after r → FedBy refusal d input st before after' r' → SameOutcome after after' r r'
-  fed_once Accepted a b =
+  fed_once (Ok tt) a b =
       record {
         result = a.is ∙ sym b.is;
         image = a.image ∙ sym b.image;
         held = held_is a.is after.receive ∙ a.held ∙ sym (held_is b.is after'.receive ∙ b.held);
         reply = a.reply ∙ sym b.reply;
       }
-  fed_once (By row) a b =
+  fed_once (Err row) a b =
       let same : after ≡ after' = a.lent ∙ sym b.lent in
       record {
         result = a.is ∙ sym b.is;
@@ -75,23 +74,23 @@ module _ (p : Profile) (st : State) (input : List ℕ) (before : Lent) where
       ∙ take-append_seam d.machine.held (drop (length d.machine.held) before.receive)
 
   outcome : (refusal : Refusal) → feed_refusal p st before ≡ refusal → Outcome p st input before
-  outcome Accepted e =
+  outcome (Ok tt) e =
       let ready : Ready p st before = rows_ready p st before e in
       record {
         after = placed;
-        answer = record { refusal = Accepted; state = d.machine.state; consumed = d.consumed; count = length d.reply };
+        answer = record { refusal = Ok tt; state = d.machine.state; consumed = d.consumed; count = length d.reply };
         feeds =
             feeds
-            (subst (λ (x : Refusal). FedBy x d input st before placed (record { refusal = Accepted; state = d.machine.state; consumed = d.consumed; count = length d.reply }))
+            (subst (λ (x : Refusal). FedBy x d input st before placed (record { refusal = Ok tt; state = d.machine.state; consumed = d.consumed; count = length d.reply }))
             (sym e) (record { is = refl; image = refl; held = held ready; reply = refl; idle = idle ready }));
       }
-  outcome (By row) e =
+  outcome (Err row) e =
       record {
         after = before;
-        answer = record { refusal = By row; state = st; consumed = 0; count = 0 };
+        answer = record { refusal = Err row; state = st; consumed = 0; count = 0 };
         feeds =
             feeds
-            (subst (λ (x : Refusal). FedBy x d input st before before (record { refusal = By row; state = st; consumed = 0; count = 0 })) (sym e)
+            (subst (λ (x : Refusal). FedBy x d input st before before (record { refusal = Err row; state = st; consumed = 0; count = 0 })) (sym e)
             (record { is = refl; lent = refl }));
       }
 
@@ -101,13 +100,13 @@ module _ (p : Profile) (st : State) (input : List ℕ) (before : Lent) where
   -- it leaves the receive buffer as long as it was
   outcome_room : (refusal : Refusal) (e : feed_refusal p st before ≡ refusal) → length (outcome refusal e).after.receive ≡ length before.receive
   unfolding outcome front
-  outcome_room Accepted e =
+  outcome_room (Ok tt) e =
       let ready : Ready p st before = rows_ready p st before e in
       let f : FitMachine p d.machine = feed_fits p ready.profile (machine_of st before) input (machine_fits p st before ready.fit) in
       let few : length d.machine.held < longest_packet = held_short p d.machine f in
       let room : longest_packet ≤ length before.receive = ready.receive in
       rw (length-append, length-drop) (omega arith)
-  outcome_room (By row) e = refl
+  outcome_room (Err row) e = refl
 
   pub feeds_room : length feeds_some.after.receive ≡ length before.receive
   unfolding feeds_some

@@ -1,6 +1,6 @@
 -- The demands for callers in C, proved. Assumes nothing.
 use mathlib.Core.List.{List, ◌++◌}
-use mathlib.Core.Option.{Option, some}
+use Rattle.std.specs.Prelude.{Option, Some, Ok, Err}
 use mathlib.Core.Logic.{◌↔◌}
 use mathlib.Core.Path.{◌≡◌, refl, sym, ap, subst, ◌∙◌}
 use Prim.Native.Nat.{ℕ}
@@ -18,9 +18,7 @@ use Rattle.recording.proofs.Numbers.{ended_once}
 use Rattle.record_exchange.specs.Line.{exchanges_of}
 use Rattle.record_replay.specs.Replay.{replay}
 use Rattle.device_calls.specs.declared.Row.{Row}
-use Rattle.device_calls.specs.declared.Refusal.{Refusal}
-use Rattle.device_calls.specs.declared.Refusal.TheVariants.{Accepted, By}
-use Rattle.device_calls.specs.Calls.{buffers, row_number, number_of, start_rows, feed_rows, refusal_of, start_refusal, started_at}
+use Rattle.device_calls.specs.Calls.{buffers, row_number, number_of, start_rows, feed_rows, refusal_of, start_refusal, started_at, Refusal}
 use Rattle.device_steps.specs.Feed.{Delivery}
 use Rattle.interface.specs.Calls.{LentBytes, state_rows, feeding_rows, starting_refusal, feeding_refusal}
 use Rattle.interface.specs.Post.{Numbers, StartedBytes, ResetBytes, reset_over, delivery_of, RanBytes, UnfedBytes, FedBytes, FeedsBytes}
@@ -30,8 +28,8 @@ use Rattle.demands.specs.Outside.{NumberedBy, Outside}
 use Rattle.demands.proofs.Rows.{by_rows, refusal_once}
 
 -- a number tells its refusal
-pub zero_accepts : (refusal : Refusal) → number_of refusal ≡ 0 → refusal ≡ Accepted
-zero_accepts refusal e = refusal_once refusal Accepted e
+pub zero_accepts : (refusal : Refusal) → number_of refusal ≡ 0 → refusal ≡ Ok tt
+zero_accepts refusal e = refusal_once refusal (Ok tt) e
 
 numbered_by : (rows : List (Check Row)) {n : ℕ} → n ≡ number_of (refusal_of (first_fault rows)) → NumberedBy rows n
 numbered_by rows e =
@@ -39,20 +37,20 @@ numbered_by rows e =
     let b = by_rows rows {refusal = refusal_of (first_fault rows)} refl in
     record {
       accepted = (λ h. b.accepted.0 (zero_accepts x (sym e ∙ h)), λ n. e ∙ ap number_of (b.accepted.1 n));
-      refused = λ row. (λ h. (b.refused row).0 (refusal_once x (By row) (sym e ∙ h)), λ f. e ∙ ap number_of ((b.refused row).1 f));
+      refused = λ row. (λ h. (b.refused row).0 (refusal_once x (Err row) (sym e ∙ h)), λ f. e ∙ ap number_of ((b.refused row).1 f));
     }
 
 -- what goes by a refusal, where it is accepted and where it is not
 module _ {A : Type 0} (at : Refusal → A) (refusal : Refusal) {n : ℕ} (e : n ≡ number_of refusal) where
-  where_accepted : n ≡ 0 → at refusal ≡ at Accepted
+  where_accepted : n ≡ 0 → at refusal ≡ at (Ok tt)
   where_accepted z = ap at (zero_accepts refusal (sym e ∙ z))
 
-  where_refused : (a : A) → ((row : Row) → at (By row) ≡ a) → (n ≡ 0 → ⊥) → at refusal ≡ a
+  where_refused : (a : A) → ((row : Row) → at (Err row) ≡ a) → (n ≡ 0 → ⊥) → at refusal ≡ a
   where_refused a same z = by refusal e
     where
       by : (x : Refusal) → n ≡ number_of x → at x ≡ a
-      by Accepted k = absurd (z k)
-      by (By row) k = same row
+      by (Ok tt) k = absurd (z k)
+      by (Err row) k = same row
 
 -- feeding
 module _ (profile input : List ℕ) (before after : LentBytes) (r : Numbers) (f : FeedsBytes profile input before after r) where
@@ -60,8 +58,8 @@ module _ (profile input : List ℕ) (before after : LentBytes) (r : Numbers) (f 
   d = delivery_of profile before input
 
   fed_number : (x : Refusal) → FedBytes x d input before after r → r.number ≡ number_of x
-  fed_number Accepted g = ap (λ (k : Numbers). k.number) g.is
-  fed_number (By row) g = ap (λ (k : Numbers). k.number) g.is
+  fed_number (Ok tt) g = ap (λ (k : Numbers). k.number) g.is
+  fed_number (Err row) g = ap (λ (k : Numbers). k.number) g.is
 
   number_is : r.number ≡ number_of (feeding_refusal profile before)
   number_is = fed_number (feeding_refusal profile before) f
@@ -70,9 +68,9 @@ module _ (profile input : List ℕ) (before after : LentBytes) (r : Numbers) (f 
   fed_accepted z = subst (λ (x : Refusal). FedBytes x d input before after r) (zero_accepts (feeding_refusal profile before) (sym number_is ∙ z)) f
 
   fed_refused : (row : Row) → r.number ≡ row_number row → UnfedBytes row before after r
-  fed_refused row z = subst (λ (x : Refusal). FedBytes x d input before after r) (refusal_once (feeding_refusal profile before) (By row) (sym number_is ∙ z)) f
+  fed_refused row z = subst (λ (x : Refusal). FedBytes x d input before after r) (refusal_once (feeding_refusal profile before) (Err row) (sym number_is ∙ z)) f
 
-pub same_rows : (profile : List ℕ) (l : LentBytes) (st : State) → state_in l.state ≡ some st
+pub same_rows : (profile : List ℕ) (l : LentBytes) (st : State) → state_in l.state ≡ Some st
     → feeding_rows profile l ≡ feed_rows (profile_in profile) st (buffers l.image l.receive l.reply)
 unfolding feeding_rows feed_rows
 same_rows profile l st e =

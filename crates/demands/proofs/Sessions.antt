@@ -15,10 +15,8 @@ use Rattle.packet.specs.Frame.{front}
 use Rattle.state.specs.declared.State.{State}
 use Rattle.state.specs.State.{fresh_state}
 use Rattle.device_calls.specs.declared.Row.{Row}
-use Rattle.device_calls.specs.declared.Refusal.{Refusal}
-use Rattle.device_calls.specs.declared.Refusal.TheVariants.{Accepted, By}
 use Rattle.device_calls.specs.declared.Started.{Started}
-use Rattle.device_calls.specs.Calls.{Lent, Starts}
+use Rattle.device_calls.specs.Calls.{Lent, Starts, Refusal}
 use Rattle.device_steps.specs.Step.{Machine, step_of}
 use Rattle.device_steps.specs.Feed.{Delivery, feed_of}
 use Rattle.device_steps.specs.Records.{Brings}
@@ -34,6 +32,7 @@ use Rattle.record_history.proofs.Recorded.{unanswered_entry, entry_asked, entry_
 use Rattle.demands.specs.Line.{IsReply, packets_in, answers_in}
 use Rattle.demands.specs.Session.{Kept, lent_by, machine_in, Turn, feeding, resetting, mistaking, Honest, kept_by, kept_after, AllHonest, reset_in, calls_in, history_of, reply_of, got_by, got_in}
 use Rattle.demands.proofs.Rows.{feed_ran, feed_unfed, start_keeps, start_fresh}
+use Rattle.std.specs.Prelude.{Ok, Err}
 use Rattle.demands.proofs.Lines.{good_least, answered_exactly}
 
 -- lists of replies, one after the other
@@ -117,7 +116,7 @@ module _ (p : Profile) (k : Kept) (input reply : List ℕ) (after : Lent) (r : F
   abbrev d : Delivery
   d = feed_of p m input
 
-  accepted_goes : r.refusal ≡ Accepted → Goes p k (feeding input reply after r)
+  accepted_goes : r.refusal ≡ Ok tt → Goes p k (feeding input reply after r)
   unfolding machine_after
   accepted_goes e =
       let ran : Ran d input (lent_by k reply) after r = feed_ran f e in
@@ -136,7 +135,7 @@ module _ (p : Profile) (k : Kept) (input reply : List ℕ) (after : Lent) (r : F
             ∙ ap answers_in (sym (delivery_record p m (take r.consumed input)));
       }
 
-  refused_goes : (row : Row) → r.refusal ≡ By row → Goes p k (feeding input reply after r)
+  refused_goes : (row : Row) → r.refusal ≡ Err row → Goes p k (feeding input reply after r)
   unfolding machine_after hearing packets_in answers_in record_of heard_record
   refused_goes row e =
       let un : Unfed row k.state (lent_by k reply) after r = feed_unfed f row e in
@@ -154,14 +153,14 @@ module _ (p : Profile) (k : Kept) (input reply : List ℕ) (after : Lent) (r : F
       }
 
   by_refusal : (x : Refusal) → r.refusal ≡ x → Goes p k (feeding input reply after r)
-  by_refusal Accepted e = accepted_goes e
-  by_refusal (By row) e = refused_goes row e
+  by_refusal (Ok tt) e = accepted_goes e
+  by_refusal (Err row) e = refused_goes row e
 
 -- a reset
 module _ (p : Profile) (k : Kept) (r : Started) (s : Starts p (length k.image) k.state r) where
   reset_goes : (x : Refusal) → r.refusal ≡ x → Goes p k (resetting r)
   unfolding machine_after packets_in answers_in record_of fresh_state
-  reset_goes Accepted e =
+  reset_goes (Ok tt) e =
       let state : r.state ≡ fresh_state p = start_fresh s e in
       record {
         machine =
@@ -169,7 +168,7 @@ module _ (p : Profile) (k : Kept) (r : Started) (s : Starts p (length k.image) k
             ∙ ap (λ (x : Refusal). machine_after p (machine_in k) (reset_in x)) (sym e);
         got = ap (λ (x : Refusal). answers_in (record_of p (machine_in k) (reset_in x))) (sym e);
       }
-  reset_goes (By row) e =
+  reset_goes (Err row) e =
       let state : r.state ≡ k.state = start_keeps s row e in
       record {
         machine =
@@ -180,10 +179,10 @@ module _ (p : Profile) (k : Kept) (r : Started) (s : Starts p (length k.image) k
 
 -- a mistake that was refused
 module _ (p other : Profile) (st : State) (k : Kept) (input reply : List ℕ) (after : Lent) (r : Fed) (f : Feeds other st input (lent_by k reply) after r) where
-  mistake_goes : (x : Refusal) → r.refusal ≡ x → (r.refusal ≡ Accepted → ⊥) → Goes p k (mistaking other st input reply after r)
+  mistake_goes : (x : Refusal) → r.refusal ≡ x → (r.refusal ≡ Ok tt → ⊥) → Goes p k (mistaking other st input reply after r)
   unfolding machine_after packets_in answers_in record_of
-  mistake_goes Accepted e n = absurd (n e)
-  mistake_goes (By row) e n =
+  mistake_goes (Ok tt) e n = absurd (n e)
+  mistake_goes (Err row) e n =
       let un : Unfed row st (lent_by k reply) after r = feed_unfed f row e in
       let count : r.count ≡ 0 = ap (λ (x : Fed). x.count) un.is in
       record {

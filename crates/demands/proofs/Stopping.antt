@@ -2,14 +2,13 @@
 use mathlib.Core.Bool.{false}
 use mathlib.Core.List.{List, [], ◌∷◌}
 use mathlib.Core.Logic.{◌⊎◌, inl, inr, ⊎_elim, ◌↔◌}
-use mathlib.Core.Option.{none, some}
+use Rattle.std.specs.Prelude.{None, Some, Ok, Err}
 use mathlib.Core.Path.{◌≡◌, refl, ap, subst, ◌∙◌}
 use Prim.Native.Nat.{ℕ, suc, ◌+◌, ◌<◌}
 use native.Mathlib.Numerals.{add-one}
 use native.Mathlib.Omega.{arith}
 use lib.ListN.{length}
 use Rattle.verdict.specs.declared.Reason.{Reason}
-use Rattle.verdict.specs.declared.Verdict.TheVariants.{Granted, Refused}
 use Rattle.verdict.specs.Check.{Check, first_fault}
 use Rattle.verdict.proofs.FirstFault.{clear, grants, first_found}
 use Rattle.profile.specs.declared.Profile.{Profile}
@@ -94,14 +93,14 @@ answer_eq a act state reply e f g =
     ∙ ap (λ (x : List ℕ). record { act = act; state = state; reply = x }) g
 
 goes_by : (checks : List (Check Reason)) (granted : Answer) (request : ℕ) (stage : Stage) (st : State) (a : Answer)
-    → (first_fault checks ≡ none → a ≡ granted) → ((reason : Reason) → first_fault checks ≡ some reason → RefusedWith request reason stage st a)
-    → ((first_fault checks ≡ none) ↔ (code_at a.reply < 128)) → GoesBy checks granted request stage st a
+    → (first_fault checks ≡ None → a ≡ granted) → ((reason : Reason) → first_fault checks ≡ Some reason → RefusedWith request reason stage st a)
+    → ((first_fault checks ≡ None) ↔ (code_at a.reply < 128)) → GoesBy checks granted request stage st a
 goes_by checks granted request stage st a g r t =
     record {
       grants = λ n. g (grants checks n);
       refused = λ reason f.
           let w = r reason (first_found checks reason f) in
-          answer_eq a Nothing (moved stage st) (status_reply request (Refused reason)) w.act w.state w.reply;
+          answer_eq a Nothing (moved stage st) (status_reply request (Err reason)) w.act w.state w.reply;
       told = (λ h. clear checks (t.1 h), λ n. t.0 (grants checks n));
     }
 
@@ -110,7 +109,7 @@ module _ (p : Profile) (image : List ℕ) (st : State) where
   command_goes q = goes_by _ _ _ _ _ _ (command_granted p image st q) (command_refused p image st q) (command_told_lem p image st q)
 
   pub write_goes : (r : Range) (q : List ℕ)
-      → GoesBy (write_checks (areas_of p) image r q) (write_decided st r q Granted) (com_number Write) Command st (answer_write p image st r q)
+      → GoesBy (write_checks (areas_of p) image r q) (write_decided st r q (Ok tt)) (com_number Write) Command st (answer_write p image st r q)
   unfolding write_decided
   write_goes r q = goes_by _ _ _ _ _ _ (write_granted p image st r q) (write_refused p image st r q) (write_told p image st r q)
 

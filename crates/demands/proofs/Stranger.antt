@@ -7,10 +7,8 @@ use lib.ListN.{length, take}
 use Rattle.profile.specs.declared.Profile.{Profile}
 use Rattle.state.specs.declared.State.{State}
 use Rattle.state.specs.State.{fresh_state, zero_state}
-use Rattle.device_calls.specs.declared.Refusal.{Refusal}
-use Rattle.device_calls.specs.declared.Refusal.TheVariants.{Accepted, By}
 use Rattle.device_calls.specs.declared.Started.{Started}
-use Rattle.device_calls.specs.Calls.{start_refusal, started_at, started_by, Starts}
+use Rattle.device_calls.specs.Calls.{start_refusal, started_at, started_by, Starts, Refusal}
 use Rattle.device.specs.Post.{Feeds}
 use Rattle.stranger.specs.Alike.{is_shut, SameStored}
 use Rattle.stranger.specs.Running.{AlikeLent, SameFeed}
@@ -21,6 +19,7 @@ use Rattle.stranger.proofs.Examples.{goes_on, id_tells, commands_tell, not_again
 use Rattle.demands.specs.Session.{Kept, lent_by, Turn, resetting, Honest, kept_by, kept_after}
 use Rattle.demands.specs.Stranger.{AlikeKept, OneFeed, Both, feedings, resettings, on_first, on_second, SameRoom, BothHonest, told_by, told_in, StayShut, Stranger}
 use Rattle.demands.proofs.Pairs.{sessions}
+use Rattle.std.specs.Prelude.{Ok, Err}
 use Rattle.demands.proofs.Due.{told_due}
 
 -- what is kept makes, with reply buffers of one length, buffers that are alike
@@ -58,8 +57,8 @@ module _ (p : Profile) (k k' : Kept) (a : AlikeKept p k k') where
   -- a fresh state holds nothing, and one that is given back holds what it held
   reset_held : (x : Refusal) (st : State) → st ≡ started_at x p k.state → take st.held k.receive ≡ take st.held k'.receive
   unfolding fresh_state
-  reset_held Accepted st e = ap (λ (s : State). take s.held k.receive) e ∙ sym (ap (λ (s : State). take s.held k'.receive) e)
-  reset_held (By row) st e =
+  reset_held (Ok tt) st e = ap (λ (s : State). take s.held k.receive) e ∙ sym (ap (λ (s : State). take s.held k'.receive) e)
+  reset_held (Err row) st e =
       ap (λ (s : State). take s.held k.receive) e ∙ a.lent.machine.held ∙ sym (ap (λ (s : State). take s.held k'.receive) e)
 
   pub resets_alike : (r r' : Started) → Starts p (length k.image) k.state r → Starts p (length k'.image) k'.state r'

@@ -1,7 +1,7 @@
 -- What a stranger can learn, for callers in C: the state that a call leaves reads back as itself, so the buffers are alike again. Assumes nothing.
 use mathlib.Core.Bool.{true}
 use mathlib.Core.List.{List, [], ◌++◌}
-use mathlib.Core.Option.{Option, none, some}
+use Rattle.std.specs.Prelude.{Option, None, Some, Ok, Err}
 use mathlib.Core.Path.{◌≡◌, refl, sym, ap, subst, ◌∙◌}
 use Prim.Native.Nat.{ℕ, ◌<◌}
 use native.Mathlib.Omega.{arith}
@@ -16,14 +16,10 @@ use Rattle.state.specs.declared.Stage.{Stage}
 use Rattle.state.specs.declared.Stage.TheVariants.{Setting, Authentication, Command, Writing, Reading}
 use Rattle.state.specs.declared.State.{State}
 use Rattle.state.specs.State.{fresh_state, zero_state}
-use Rattle.state_bytes.specs.declared.StageIn.{StageIn}
-use Rattle.state_bytes.specs.declared.StageIn.TheVariants.{Is, NoStage}
 use Rattle.state_bytes.specs.State.{state_length, range_of, state_bytes, stage_in, state_with, state_by, state_in, state_over}
 use Rattle.state_bytes.proofs.StateRoundTrip.{state_reads}
 use Rattle.device_calls.specs.declared.Row.{Row}
-use Rattle.device_calls.specs.declared.Refusal.{Refusal}
-use Rattle.device_calls.specs.declared.Refusal.TheVariants.{Accepted, By}
-use Rattle.device_calls.specs.Calls.{Lent, number_of, start_rows, feed_rows, refusal_of, started_at}
+use Rattle.device_calls.specs.Calls.{Lent, number_of, start_rows, feed_rows, refusal_of, started_at, Refusal}
 use Rattle.device_calls.specs.Ready.{Ready}
 use Rattle.device_calls.proofs.Rows.{rows_ready, refused_alike}
 use Rattle.device_steps.specs.Step.{machine_of}
@@ -48,9 +44,9 @@ read_sixteen : (bs : List ℕ) → length (state_or (state_in bs)).id ≡ 16
 unfolding state_with bytes_from zero_state
 read_sixteen bs = by (stage_in bs)
   where
-    by : (s : StageIn) → length (state_or (state_by bs s)).id ≡ 16
-    by NoStage = refl
-    by (Is stage) = refl
+    by : (s : Option Stage) → length (state_or (state_by bs s)).id ≡ 16
+    by None = refl
+    by (Some stage) = refl
 
 -- outside a write and a read there is no range to fit into four bytes each
 no_range : (g : Stage) → is_plain g ≡ true → range_of g ≡ record { next = 0; left = 0 }
@@ -65,7 +61,7 @@ kept_lent : {p : Profile} (st : State) {bs : List ℕ} {l l' : Lent} → Plain s
     → AlikeLent p (state_or (state_in bs)) l l'
 kept_lent {p} st {bs} {l} {l'} w h e a =
     let range : range_of st.stage ≡ record { next = 0; left = 0 } = no_range st.stage w.stage in
-    let reads : state_in (state_bytes st) ≡ some st = state_reads st w.sixteen (rw range (omega arith)) (rw range (omega arith)) h in
+    let reads : state_in (state_bytes st) ≡ Some st = state_reads st w.sixteen (rw range (omega arith)) (rw range (omega arith)) h in
     subst (λ (s : State). AlikeLent p s l l') (sym (ap (λ (x : List ℕ). state_or (state_in x)) e ∙ ap state_or reads)) a
 
 -- and a fresh state holds nothing, so with it only images and lengths count
@@ -104,16 +100,16 @@ module _ (profile input state : List ℕ) (l l' : Lent) (a : AlikeLent (profile_
       by : (o : Option State) → AlikeLent p (state_or o) l l'
           → refusal_of (first_fault (start_rows p (length l.image) ++ state_rows p o l.receive (length l.reply)))
           ≡ refusal_of (first_fault (start_rows p (length l'.image) ++ state_rows p o l'.receive (length l'.reply)))
-      by none b = ap (λ (n : ℕ). refusal_of (first_fault (start_rows p n ++ state_rows p none [] 0))) b.machine.stored.size
-      by (some s) b = refused_alike p s l l' b.machine.stored.size b.machine.held b.receive b.reply
+      by None b = ap (λ (n : ℕ). refusal_of (first_fault (start_rows p n ++ state_rows p None [] 0))) b.machine.stored.size
+      by (Some s) b = refused_alike p s l l' b.machine.stored.size b.machine.held b.receive b.reply
 
   -- an accepted one has what a step asks
-  ready : feeding_refusal profile before ≡ Accepted → (o : Option State) → state_in state ≡ o → Ready p (state_or o) l
-  ready k none e = absurd (state_there profile before k e)
-  ready k (some s) e = rows_ready p s l (ap (λ (rows : List (Check Row)). refusal_of (first_fault rows)) (sym (same_rows profile before s e)) ∙ k)
+  ready : feeding_refusal profile before ≡ Ok tt → (o : Option State) → state_in state ≡ o → Ready p (state_or o) l
+  ready k None e = absurd (state_there profile before k e)
+  ready k (Some s) e = rows_ready p s l (ap (λ (rows : List (Check Row)). refusal_of (first_fault rows)) (sym (same_rows profile before s e)) ∙ k)
 
   -- and leaves fewer bytes held than a packet has
-  few_held : feeding_refusal profile before ≡ Accepted → d.machine.state.held < 4294967296
+  few_held : feeding_refusal profile before ≡ Ok tt → d.machine.state.held < 4294967296
   few_held k =
       let g : Ready p st l = ready k (state_in state) refl in
       let f : FitMachine p d.machine = feed_fits p g.profile (machine_of st l) input (machine_fits p st l g.fit) in
@@ -124,7 +120,7 @@ module _ (profile input state : List ℕ) (l l' : Lent) (a : AlikeLent (profile_
   module _ (after after' : LentBytes) (r r' : Numbers) where
     -- accepted; a lent slice keeps its length
     rans_alike : is_shut st.stage ≡ true → length after.receive ≡ length l.receive → length after'.receive ≡ length l'.receive
-        → feeding_refusal profile before ≡ Accepted → RanBytes d input before after r → RanBytes d' input before' after' r'
+        → feeding_refusal profile before ≡ Ok tt → RanBytes d input before after r → RanBytes d' input before' after' r'
         → SameNumbers profile after after' r r'
     rans_alike h kept kept' k x y =
         let s : SameDelivery p d d' = feed_alike p (machine_of st l) (machine_of st l') input a.machine h in
@@ -167,8 +163,8 @@ module _ (profile input state : List ℕ) (l l' : Lent) (a : AlikeLent (profile_
       where
         by : (x : Refusal) → feeding_refusal profile before ≡ x → FedBytes x d input before after r → FedBytes x d' input before' after' r'
             → SameNumbers profile after after' r r'
-        by Accepted k x y = rans_alike h kept kept' k x y
-        by (By row) k x y = unfeds_alike row x y
+        by (Ok tt) k x y = rans_alike h kept kept' k x y
+        by (Err row) k x y = unfeds_alike row x y
 
 -- any two feeds: the second one's state put in place by the first one's
 feeds_alike : (profile input : List ℕ) (before before' after after' : LentBytes) (r r' : Numbers) → AlikeBytes profile before before' → ShutBytes before
@@ -182,7 +178,7 @@ feeds_alike profile input before before' after after' r r' a h kept kept' f f' =
 start_writes : {profile : List ℕ} {n : ℕ} {before after : List ℕ} {r : ℕ} → StartedBytes profile n before after r → r ≡ 0
     → after ≡ state_bytes (fresh_state (profile_in profile))
 start_writes {profile} {n} {before} s z =
-    let k : starting_refusal profile n (length before) ≡ Accepted = zero_accepts _ (sym s.number ∙ z) in
+    let k : starting_refusal profile n (length before) ≡ (Ok tt) = zero_accepts _ (sym s.number ∙ z) in
     s.state
     ∙ ap (λ (x : Refusal). state_over (started_at x (profile_in profile) zero_state) before) k
     ∙ rw (eq-eqb (length before) state_length (accepted_room profile n (length before) k)) refl
@@ -220,8 +216,8 @@ resets_alike profile l l' after after' r r' a s s' =
 
     by : (x : Refusal) → after ≡ reset_over x (profile_in profile) l.state
         → AlikeLent (profile_in profile) (state_or (state_in after)) (buffers_in l) (buffers_in l')
-    by Accepted e = fresh_lent a.lent.machine.stored a.lent.receive a.lent.reply e
-    by (By row) e = subst (λ (bs : List ℕ). AlikeLent (profile_in profile) (state_or (state_in bs)) (buffers_in l) (buffers_in l')) (sym e) a.lent
+    by (Ok tt) e = fresh_lent a.lent.machine.stored a.lent.receive a.lent.reply e
+    by (Err row) e = subst (λ (bs : List ℕ). AlikeLent (profile_in profile) (state_or (state_in bs)) (buffers_in l) (buffers_in l')) (sym e) a.lent
 
 pub stranger_outside : StrangerOutside
 stranger_outside = record { feed = feeds_alike; start = starts_alike; reset = resets_alike }

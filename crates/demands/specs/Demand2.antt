@@ -1,12 +1,10 @@
 -- Demand 2. Every reply byte and every flash byte is what the protocol says: the first fault in the stated order gives the code, and a request is
 -- granted exactly when no fault applies.
-use Rattle.std.specs.Prelude.{true, List, [], ◌∷◌, ◌++◌, ◌⊎◌, ◌↔◌, ◌≡◌, ℕ, ◌+◌, ◌<◌, length, take, get_or}
+use Rattle.std.specs.Prelude.{true, List, [], ◌∷◌, ◌++◌, ◌⊎◌, ◌↔◌, ◌≡◌, ℕ, ◌+◌, ◌<◌, length, take, get_or, Some, Ok, Err}
 use Rattle.verdict.specs.declared.Reason.{Reason}
-use Rattle.verdict.specs.declared.Verdict.TheVariants.{Granted, Refused}
 use Rattle.verdict.specs.Check.{Check, NoneApplies, IsFirst}
 use Rattle.profile.specs.declared.Area.{Area}
 use Rattle.profile.specs.declared.Profile.{Profile}
-use Rattle.profile.specs.declared.Place.TheVariants.{In}
 use Rattle.profile.specs.declared.Spot.{Spot}
 use Rattle.profile.specs.Areas.{areas_of}
 use Rattle.profile.specs.Places.{place_of, offset_in}
@@ -29,7 +27,6 @@ use Rattle.answer.specs.Answer.{Answer, moved}
 use Rattle.answer_command.specs.Grants.{grant_of, answer_command}
 use Rattle.answer_transfer.specs.Transfers.{read_packet, write_decided, answer_write, answer_next}
 use Rattle.answer_waking.specs.Wake.{wake_of}
-use Rattle.device_calls.specs.declared.Refusal.TheVariants.{Accepted}
 use Rattle.device_calls.specs.Calls.{Lent}
 use Rattle.device_steps.specs.Step.{Machine, machine_of, settled, refused_early, answer_of, step_of}
 use Rattle.device_steps.specs.Feed.{Delivery, feed_of}
@@ -77,12 +74,12 @@ pub record StopsBehind (p : Profile) (m : Machine) (bs : List ℕ) (d : Delivery
 pub record GoesBy (checks : List (Check Reason)) (granted : Answer) (request : ℕ) (stage : Stage) (st : State) (a : Answer) : Type 0 where
   pub grants : NoneApplies checks → a ≡ granted
   pub refused : (reason : Reason) → IsFirst checks reason
-      → a ≡ record { act = Nothing; state = moved stage st; reply = status_reply request (Refused reason) }
+      → a ≡ record { act = Nothing; state = moved stage st; reply = status_reply request (Err reason) }
   pub told : (code_at a.reply < 128) ↔ NoneApplies checks
 
 pub record Demand2 : Type 0 where
   -- an accepted feed leaves what is defined: state, consumed count, reply length, image, held bytes, reply buffer
-  pub leaves : (p : Profile) (st : State) (input : List ℕ) (before after : Lent) (r : Fed) → Feeds p st input before after r → r.refusal ≡ Accepted
+  pub leaves : (p : Profile) (st : State) (input : List ℕ) (before after : Lent) (r : Fed) → Feeds p st input before after r → r.refusal ≡ Ok tt
       → Ran (feed_of p (machine_of st before) input) input before after r
   -- whatever is lent there is an outcome that does what feeding promises
   pub some : (p : Profile) (st : State) (input : List ℕ) (before : Lent) → Outcome p st input before
@@ -106,12 +103,12 @@ pub record Demand2 : Type 0 where
   pub command : (p : Profile) (image : List ℕ) (st : State) (q : List ℕ)
       → GoesBy (command_checks p st q) (grant_of p image st q (com_of (code_at q))) (code_at q) st.stage st (answer_command p image st q)
   pub write : (p : Profile) (image : List ℕ) (st : State) (r : Range) (q : List ℕ)
-      → GoesBy (write_checks (areas_of p) image r q) (write_decided st r q Granted) (com_number Write) Command st (answer_write p image st r q)
+      → GoesBy (write_checks (areas_of p) image r q) (write_decided st r q (Ok tt)) (com_number Write) Command st (answer_write p image st r q)
   pub next : (p : Profile) (image : List ℕ) (st : State) (r : Range) (q : List ℕ)
       → GoesBy (next_checks q) (read_packet p image st r) (com_number Read) Command st (answer_next p image st r q)
   -- the effects, at every address that an area has: a byte of the image changes as its address says, and total erase leaves FFh alone
-  pub erases : (areas : List Area) (image : List ℕ) (x : ℕ) (spot : Spot) → place_of areas x ≡ In spot → offset_in spot x < length image → (s e : ℕ)
+  pub erases : (areas : List Area) (image : List ℕ) (x : ℕ) (spot : Spot) → place_of areas x ≡ Some spot → offset_in spot x < length image → (s e : ℕ)
       → get_or (erased areas s e image) (offset_in spot x) 0 ≡ erasing s e x (get_or image (offset_in spot x) 0)
-  pub stores : (areas : List Area) (image : List ℕ) (x : ℕ) (spot : Spot) → place_of areas x ≡ In spot → offset_in spot x < length image
+  pub stores : (areas : List Area) (image : List ℕ) (x : ℕ) (spot : Spot) → place_of areas x ≡ Some spot → offset_in spot x < length image
       → (s : ℕ) (bytes : List ℕ) → get_or (stored areas s bytes image) (offset_in spot x) 0 ≡ storing s bytes x (get_or image (offset_in spot x) 0)
   pub blanks : (image : List ℕ) (i : ℕ) → i < length image → get_or (blanked image) i 0 ≡ 0xFF

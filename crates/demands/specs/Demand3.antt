@@ -1,6 +1,6 @@
 -- Demand 3. Start from any acceptable profile, kept throughout, and any image that fits it. After any bytes, cut into any deliveries, with resets
 -- between, and with nobody else touching the lent buffers or state, the flash equals the starting image with the line's own record replayed.
-use Rattle.std.specs.Prelude.{false, List, [], ◌∷◌, ◌++◌, map, ◌⊎◌, ◌≡◌, ℕ, length, take, drop}
+use Rattle.std.specs.Prelude.{false, List, [], ◌∷◌, ◌++◌, map, ◌⊎◌, ◌≡◌, ℕ, length, take, drop, Ok}
 use Rattle.profile.specs.declared.Area.{Area}
 use Rattle.profile.specs.declared.Profile.{Profile}
 use Rattle.profile.specs.Areas.{areas_of, total_of}
@@ -13,7 +13,6 @@ use Rattle.state.specs.State.{zero_state}
 use Rattle.record_exchange.specs.Exchange.{answered_ok}
 use Rattle.record_exchange.specs.Line.{Entry, exchange, restart}
 use Rattle.record_replay.specs.Replay.{replay}
-use Rattle.device_calls.specs.declared.Refusal.TheVariants.{Accepted}
 use Rattle.device_calls.specs.declared.Started.{Started}
 use Rattle.device_calls.specs.Calls.{buffers, start_refusal, feed_refusal, Starts}
 use Rattle.device_steps.specs.Step.{Machine}
@@ -41,9 +40,9 @@ left p image calls = record_of p (fresh_of p image) calls
 
 -- a reset is accepted, and so is a feed with buffers of 1,030 bytes that hold what is held
 pub record NextAccepted (p : Profile) (m : Machine) : Type 0 where
-  pub resets : start_refusal p (length m.image) ≡ Accepted
+  pub resets : start_refusal p (length m.image) ≡ Ok tt
   pub feeds : (receive reply : List ℕ) → take m.state.held receive ≡ m.held → Roomy receive → Roomy reply
-      → feed_refusal p m.state (buffers m.image receive reply) ≡ Accepted
+      → feed_refusal p m.state (buffers m.image receive reply) ≡ Ok tt
 
 -- calls from a start on: nobody but them touches what is lent
 pub record FromStart (p : Profile) (image receive : List ℕ) (turns : List Turn) : Type 0 where
@@ -82,7 +81,7 @@ pub record Demand3 : Type 0 where
       → (kept_since f).image ≡ replay (areas_of p) image (left p image (history_of turns))
   -- and with buffers of 1,030 bytes the next feed is accepted
   pub goes_on : (p : Profile) (image receive : List ℕ) (turns : List Turn) (f : FromStart p image receive turns) (reply : List ℕ)
-      → Roomy (kept_since f).receive → Roomy reply → feed_refusal p (kept_since f).state (lent_by (kept_since f) reply) ≡ Accepted
+      → Roomy (kept_since f).receive → Roomy reply → feed_refusal p (kept_since f).state (lent_by (kept_since f) reply) ≡ Ok tt
   -- what was not answered OK has no effect in a replay, and neither has a reset
   pub unanswered : (areas : List Area) (image q reply : List ℕ) (es fs : List Entry) → answered_ok q reply ≡ false
       → replay areas image (es ++ exchange q reply ∷ fs) ≡ replay areas image (es ++ fs)

@@ -1,5 +1,5 @@
 -- The line on disk: what is read at a place of a recording, what writing a record leaves, and both ways round.
-use Rattle.std.specs.Prelude.{List, ◌++◌, ◌↔◌, ◌≡◌, ℕ, ◌+◌, ◌≤◌, length, take, drop}
+use Rattle.std.specs.Prelude.{List, ◌++◌, ◌↔◌, ◌≡◌, ℕ, ◌+◌, ◌≤◌, length, take, drop, Result, Ok, Err}
 use Rattle.numbers.specs.Bytes.{AllBytes}
 use Rattle.verdict.specs.Check.{NoneApplies, IsFirst}
 use Rattle.recording.specs.declared.Direction.{Direction}
@@ -10,8 +10,6 @@ use Rattle.recording.specs.declared.Found.TheVariants.{Is, End, Refused}
 use Rattle.recording.specs.declared.Ended.TheVariants.{Not, Whole}
 use Rattle.recording.specs.Format.{head_length, rules, entry, Record, AllFormed, written}
 use Rattle.recording.specs.Recording.{read_checks, found_at, HasAt, bytes_in, records_of, readable, extent_of}
-use Rattle.record_writer.specs.declared.Written.{Written}
-use Rattle.record_writer.specs.declared.Written.TheVariants.{Behind, Refused as NotWritten}
 use Rattle.record_writer.specs.Writing.{writer_checks, Wrote, ReadsAt, WroteAll, WritesUp}
 
 -- reading one record, at any place of any bytes
@@ -33,26 +31,26 @@ pub record Reads : Type 0 where
 -- writing one record, at any place of any buffer
 pub record Writes : Type 0 where
   -- written exactly where no check applies, and the answer is the place behind it
-  pub behind : (direction at : ℕ) (bytes before after : List ℕ) (r : Written) → Wrote direction at bytes before after r
-      → (n : ℕ) → (r ≡ Behind n) ↔ (NoneApplies (writer_checks direction (length bytes) at (length before)) × (n ≡ at + head_length + length bytes))
+  pub behind : (direction at : ℕ) (bytes before after : List ℕ) (r : Result ℕ Fault) → Wrote direction at bytes before after r
+      → (n : ℕ) → (r ≡ Ok n) ↔ (NoneApplies (writer_checks direction (length bytes) at (length before)) × (n ≡ at + head_length + length bytes))
   -- every byte outside it is as it was
-  pub kept : (direction at : ℕ) (bytes before after : List ℕ) (r : Written) → Wrote direction at bytes before after r
-      → (n : ℕ) → r ≡ Behind n → (take at after ≡ take at before) × (drop n after ≡ drop n before)
+  pub kept : (direction at : ℕ) (bytes before after : List ℕ) (r : Result ℕ Fault) → Wrote direction at bytes before after r
+      → (n : ℕ) → r ≡ Ok n → (take at after ≡ take at before) × (drop n after ≡ drop n before)
   -- refused by the first check that applies, and then nothing is written
-  pub refused : (direction at : ℕ) (bytes before after : List ℕ) (r : Written) → Wrote direction at bytes before after r
-      → (fault : Fault) → (r ≡ NotWritten fault) ↔ IsFirst (writer_checks direction (length bytes) at (length before)) fault
-  pub unwritten : (direction at : ℕ) (bytes before after : List ℕ) (r : Written) → Wrote direction at bytes before after r
-      → (fault : Fault) → r ≡ NotWritten fault → after ≡ before
+  pub refused : (direction at : ℕ) (bytes before after : List ℕ) (r : Result ℕ Fault) → Wrote direction at bytes before after r
+      → (fault : Fault) → (r ≡ Err fault) ↔ IsFirst (writer_checks direction (length bytes) at (length before)) fault
+  pub unwritten : (direction at : ℕ) (bytes before after : List ℕ) (r : Result ℕ Fault) → Wrote direction at bytes before after r
+      → (fault : Fault) → r ≡ Err fault → after ≡ before
   -- no second answer, and no second buffer
-  pub once : (direction at : ℕ) (bytes before after after' : List ℕ) (r r' : Written) → Wrote direction at bytes before after r
+  pub once : (direction at : ℕ) (bytes before after after' : List ℕ) (r r' : Result ℕ Fault) → Wrote direction at bytes before after r
       → Wrote direction at bytes before after' r' → (r ≡ r') × (after ≡ after')
 
 pub record OnDisk : Type 0 where
   pub reads : Reads
   pub writes : Writes
   -- what is written reads back: a record,
-  pub record_back : (direction at : ℕ) (bytes before after : List ℕ) (r : Written) → Wrote direction at bytes before after r
-      → (n : ℕ) → r ≡ Behind n → ReadsAt after at direction bytes n
+  pub record_back : (direction at : ℕ) (bytes before after : List ℕ) (r : Result ℕ Fault) → Wrote direction at bytes before after r
+      → (n : ℕ) → r ≡ Ok n → ReadsAt after at direction bytes n
   -- and records written one behind the other, to the end
   pub records_back : (rs : List Record) (before : List ℕ) (to : ℕ) (after : List ℕ) → WroteAll rs 0 before to after
       → (records_of (take to after) ≡ rs) × (extent_of (take to after) ≡ record { count = to; ended = Whole })

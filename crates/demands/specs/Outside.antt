@@ -1,6 +1,5 @@
 -- The demands for callers in C: the same calls on bytes, with numbers for answers.
-use Rattle.std.specs.Prelude.{List, ◌↔◌, ◌≡◌, ℕ, ◌<◌, length}
-use Rattle.std.proofs.Math.Option.{some}
+use Rattle.std.specs.Prelude.{List, ◌↔◌, ◌≡◌, ℕ, ◌<◌, length, Some, Ok, Err}
 use Rattle.verdict.specs.Check.{Check, NoneApplies, IsFirst}
 use Rattle.profile.specs.Areas.{areas_of}
 use Rattle.profile_bytes.specs.Profile.{profile_in}
@@ -12,7 +11,6 @@ use Rattle.recording.specs.declared.Fault.{Fault}
 use Rattle.recording.specs.declared.Found.TheVariants.{Is, Refused}
 use Rattle.recording.specs.Format.{direction_number, fault_number}
 use Rattle.recording.specs.Recording.{found_at, end_number, records_of, extent_of, ended_number}
-use Rattle.record_writer.specs.declared.Written.TheVariants.{Behind, Refused as NotWritten}
 use Rattle.record_writer.specs.Writing.{Wrote}
 use Rattle.record_exchange.specs.Line.{exchanges_of}
 use Rattle.record_replay.specs.Replay.{replay}
@@ -50,7 +48,7 @@ pub record Outside : Type 0 where
   pub feed_refused : (profile input : List ℕ) (before after : LentBytes) (r : Numbers) → FeedsBytes profile input before after r
       → (row : Row) → r.number ≡ row_number row → UnfedBytes row before after r
   -- where the bytes are a state, its rows are those of the device
-  pub same_rows : (profile : List ℕ) (l : LentBytes) (st : State) → state_in l.state ≡ some st
+  pub same_rows : (profile : List ℕ) (l : LentBytes) (st : State) → state_in l.state ≡ Some st
       → feeding_rows profile l ≡ feed_rows (profile_in profile) st (buffers l.image l.receive l.reply)
   -- replaying leaves the replay of the recording's exchanges, or refused nothing
   pub replays : (profile recording before after : List ℕ) (r read ended : ℕ) → Replayed profile recording before after r read ended
@@ -72,9 +70,9 @@ pub record Outside : Type 0 where
       → ((d : Direction) → r ≡ direction_number d → ⊥) → (from ≡ at) × (to ≡ at)
   -- writing a record: 7 with the place behind it, or a fault's number, and then the place stays
   pub write_record : (direction at : ℕ) (bytes before after : List ℕ) (r to : ℕ) → WritesBytes direction at bytes before after r to
-      → (r ≡ 7) ↔ Wrote direction at bytes before after (Behind to)
+      → (r ≡ 7) ↔ Wrote direction at bytes before after (Ok to)
   pub write_fault : (direction at : ℕ) (bytes before after : List ℕ) (r to : ℕ) → WritesBytes direction at bytes before after r to
-      → (fault : Fault) → (r ≡ fault_number fault) ↔ Wrote direction at bytes before after (NotWritten fault)
+      → (fault : Fault) → (r ≡ fault_number fault) ↔ Wrote direction at bytes before after (Err fault)
   pub write_stays : (direction at : ℕ) (bytes before after : List ℕ) (r to : ℕ) → WritesBytes direction at bytes before after r to
       → (fault : Fault) → r ≡ fault_number fault → to ≡ at
   -- neither ever answers 0

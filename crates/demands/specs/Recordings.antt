@@ -1,5 +1,5 @@
 -- The demands on recordings: a device that is driven over a script, and the replay of a recorded line.
-use Rattle.std.specs.Prelude.{List, ◌≡◌, ℕ, length}
+use Rattle.std.specs.Prelude.{List, ◌≡◌, ℕ, length, Ok, Err}
 use Rattle.profile.specs.declared.Profile.{Profile}
 use Rattle.profile.specs.Areas.{areas_of}
 use Rattle.profile_rules.specs.Rules.{Accepted as Acceptable}
@@ -12,7 +12,6 @@ use Rattle.record_exchange.specs.Line.{exchanges_of, taped}
 use Rattle.record_replay.specs.Replay.{replay}
 use Rattle.record_replay.specs.Post.{Played}
 use Rattle.device_calls.specs.declared.Row.{Row}
-use Rattle.device_calls.specs.declared.Refusal.TheVariants.{Accepted, By}
 use Rattle.device_calls.specs.Calls.{Lent, feed_rows}
 use Rattle.record_history.specs.History.{Call, calls_of}
 use Rattle.record_driver.specs.declared.Driven.{Driven}
@@ -29,9 +28,9 @@ pub record OnRecordings : Type 0 where
   pub drive : (p : Profile) (script : List ℕ) (before after : Lent) (r : Driven) → Drives p script before after r
       → ByRows (feed_rows p (fresh_state p) before) r.refusal
   pub undriven : (p : Profile) (script : List ℕ) (before after : Lent) (r : Driven) → Drives p script before after r
-      → (row : Row) → r.refusal ≡ By row → Undriven row p before after r
+      → (row : Row) → r.refusal ≡ Err row → Undriven row p before after r
   -- driven, the image is that of the device after the script's calls, and the starting image with the record of these calls replayed
-  pub driven : (p : Profile) (script : List ℕ) (before after : Lent) (r : Driven) → Drives p script before after r → r.refusal ≡ Accepted
+  pub driven : (p : Profile) (script : List ℕ) (before after : Lent) (r : Driven) → Drives p script before after r → r.refusal ≡ Ok tt
       → (after.image ≡ (reached p before.image (calls_of (records_of script))).image)
       × (after.image ≡ replay (areas_of p) before.image (left p before.image (calls_of (records_of script))))
   -- a line's record, taped as a recording, can be written, and reads back whole
@@ -44,6 +43,6 @@ pub record OnRecordings : Type 0 where
       → Played p (written (taped (left p image calls))) image after r
       → (after ≡ (reached p image calls).image) × (r ≡ wholly (written (taped (left p image calls))))
   -- driving and playing say how far they read and why no further
-  pub read_driven : (p : Profile) (script : List ℕ) (before after : Lent) (r : Driven) → Drives p script before after r → r.refusal ≡ Accepted
+  pub read_driven : (p : Profile) (script : List ℕ) (before after : Lent) (r : Driven) → Drives p script before after r → r.refusal ≡ Ok tt
       → r.read ≡ extent_of script
   pub read_played : (p : Profile) (recording before after : List ℕ) (r : Extent) → Played p recording before after r → r ≡ extent_of recording

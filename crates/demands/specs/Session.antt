@@ -1,11 +1,9 @@
 -- Calls as a caller makes them, one behind the other, with what each left and answered. Between two calls nobody else touches what was lent.
-use Rattle.std.specs.Prelude.{List, [], ◌∷◌, ◌++◌, ◌≡◌, ℕ, zero, suc, length, take}
+use Rattle.std.specs.Prelude.{List, [], ◌∷◌, ◌++◌, ◌≡◌, ℕ, zero, suc, length, take, Ok, Err}
 use Rattle.profile.specs.declared.Profile.{Profile}
 use Rattle.state.specs.declared.State.{State}
-use Rattle.device_calls.specs.declared.Refusal.{Refusal}
-use Rattle.device_calls.specs.declared.Refusal.TheVariants.{Accepted, By}
 use Rattle.device_calls.specs.declared.Started.{Started}
-use Rattle.device_calls.specs.Calls.{Lent, buffers, Starts}
+use Rattle.device_calls.specs.Calls.{Lent, buffers, Starts, Refusal}
 use Rattle.device_steps.specs.Step.{Machine, machine_of}
 use Rattle.device.specs.declared.Fed.{Fed}
 use Rattle.device.specs.Post.{Feeds}
@@ -36,7 +34,7 @@ pub data Turn : Type 0 where
 abbrev pub Honest : Profile → Kept → Turn → Type 0
 Honest p k (feeding input reply after r) = Feeds p k.state input (lent_by k reply) after r
 Honest p k (resetting r) = Starts p (length k.image) k.state r
-Honest p k (mistaking other st input reply after r) = Feeds other st input (lent_by k reply) after r × (r.refusal ≡ Accepted → ⊥)
+Honest p k (mistaking other st input reply after r) = Feeds other st input (lent_by k reply) after r × (r.refusal ≡ Ok tt → ⊥)
 
 -- what is kept behind it; whose state a mistake gave back is not the caller's
 abbrev pub kept_by : Kept → Turn → Kept
@@ -55,8 +53,8 @@ AllHonest p k (t ∷ more) = Honest p k t × AllHonest p (kept_by k t) more
 
 -- the history that calls are: the bytes that a feed consumed, and each reset; what was refused is none of it
 abbrev pub reset_in : Refusal → List Call
-reset_in Accepted = again ∷ []
-reset_in (By row) = []
+reset_in (Ok tt) = again ∷ []
+reset_in (Err row) = []
 
 abbrev pub calls_in : Turn → List Call
 calls_in (feeding input reply after r) = deliver (take r.consumed input) ∷ []

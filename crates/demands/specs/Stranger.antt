@@ -1,16 +1,14 @@
 -- What a stranger can learn. Two devices with one profile are in one state, have not entered the command stage, and hold the same bytes; their buffers
 -- have the same lengths, and their images the same stored ID: all else of the images is free. Given the same deliveries and resets they cannot be told
 -- apart until they enter the command stage, which both do at the same call; and that call tells nothing either.
-use Rattle.std.specs.Prelude.{true, false, List, [], ◌∷◌, map, ◌≡◌, ℕ, length, take}
+use Rattle.std.specs.Prelude.{true, false, List, [], ◌∷◌, map, ◌≡◌, ℕ, length, take, Ok, Err}
 use Rattle.profile.specs.declared.Profile.{Profile}
 use Rattle.profile.specs.Areas.{areas_of, total_of}
 use Rattle.id_code.specs.Identity.{id_of}
 use Rattle.state.specs.declared.State.{State}
 use Rattle.state.specs.State.{zero_state}
-use Rattle.device_calls.specs.declared.Refusal.{Refusal}
-use Rattle.device_calls.specs.declared.Refusal.TheVariants.{Accepted, By}
 use Rattle.device_calls.specs.declared.Started.{Started}
-use Rattle.device_calls.specs.Calls.{Lent, start_refusal, feed_refusal, Starts}
+use Rattle.device_calls.specs.Calls.{Lent, start_refusal, feed_refusal, Starts, Refusal}
 use Rattle.device_steps.specs.Step.{Machine, machine_of, step_of}
 use Rattle.device.specs.declared.Fed.{Fed}
 use Rattle.device.specs.Post.{Feeds}
@@ -98,8 +96,8 @@ refusal_for p k (mistaking other st input reply after r) = feed_refusal other st
 
 -- what there is to tell: accepted, what is seen of the device; refused, that nothing happened
 abbrev pub seen_for : Refusal → Profile → Machine → Call → Seen
-seen_for Accepted p m c = seen (called p m c)
-seen_for (By row) p m c = seen (record { machine = m; reply = []; consumed = 0 })
+seen_for (Ok tt) p m c = seen (called p m c)
+seen_for (Err row) p m c = seen (record { machine = m; reply = []; consumed = 0 })
 
 abbrev pub to_tell : Profile → Kept → Turn → Told
 to_tell p k t = record { refusal = refusal_for p k t; seen = seen_for (refusal_for p k t) p (machine_in k) (call_of t) }

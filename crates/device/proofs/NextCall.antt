@@ -12,7 +12,6 @@ use Rattle.state.specs.declared.State.{State}
 use Rattle.state.specs.State.{fresh_state}
 use Rattle.state.specs.Fit.{Fit}
 use Rattle.device.specs.declared.Fed.{Fed}
-use Rattle.device_calls.specs.declared.Refusal.TheVariants.{Accepted}
 use Rattle.device_steps.specs.Step.{Machine, machine_of}
 use Rattle.device_steps.specs.Feed.{Delivery, feed_of}
 use Rattle.device_steps.specs.Fits.{FitMachine}
@@ -20,6 +19,7 @@ use Rattle.device_calls.specs.Calls.{Lent, feed_refusal}
 use Rattle.device.specs.Post.{Ran}
 use Rattle.device_calls.specs.Ready.{Ready}
 use Rattle.device_steps.proofs.Kept.{fresh_fits, feed_fits, feed_length, machine_fits, state_fits, held_short}
+use Rattle.std.specs.Prelude.{Ok}
 use Rattle.device_calls.proofs.Rows.{ready_rows}
 
 -- a machine that fits is a state that fits a receive buffer of at least 1,030 bytes that holds its bytes
@@ -47,7 +47,7 @@ module _ (p : Profile) (before : Lent) (input : List ℕ) (st : State) (ready : 
       }
 
   pub accepted_again : (after : Lent) (r : Fed) → Ran (feed_of p (machine_of st before) input) input before after r
-      → length after.receive ≡ length before.receive → length after.reply ≡ length before.reply → feed_refusal p r.state after ≡ Accepted
+      → length after.receive ≡ length before.receive → length after.reply ≡ length before.reply → feed_refusal p r.state after ≡ Ok tt
   accepted_again after r ran b c = ready_rows p r.state after (ready_again after r ran b c)
 
 -- a fresh state fits every receive buffer, so a feed behind a start or a reset is accepted

@@ -14,9 +14,7 @@ use Rattle.state.specs.Awaits.{awaits_of, held_fits}
 use Rattle.state.specs.State.{with_held}
 use Rattle.answer.specs.declared.Answered.{Answered}
 use Rattle.answer_waking.proofs.Woken.{front_nothing}
-use Rattle.device_calls.specs.declared.Refusal.{Refusal}
-use Rattle.device_calls.specs.declared.Refusal.TheVariants.{Accepted, By}
-use Rattle.device_calls.specs.Calls.{Lent, buffers, number_of, feed_refusal, is_accepted}
+use Rattle.device_calls.specs.Calls.{Lent, buffers, number_of, feed_refusal, is_accepted, Refusal}
 use Rattle.device_calls.specs.Ready.{Ready}
 use Rattle.device_calls.proofs.Rows.{is_accepted_lem}
 use Rattle.device_steps.specs.Step.{Machine, machine_of, Step, holding, step_of}
@@ -25,6 +23,7 @@ use Rattle.device_steps.proofs.Delivered.{later, Reached, reached_start, reached
 use Rattle.device.specs.declared.Fed.{Fed}
 use Rattle.device.specs.Steps.{Stood, Holding, Added}
 use Rattle.device.specs.Post.{Ran, FedBy, Feeds}
+use Rattle.std.specs.Prelude.{Ok, Err}
 use Rattle.device.proofs.Added.{there, room, held_on, fed_more}
 
 -- what the bytes before i have done: no reply yet, the state fits, and what the whole input gives is what its rest gives, i bytes later
@@ -64,7 +63,7 @@ turned_none p l bs st r =
 
 -- what an accepted feed answers, by its parts
 fed_is : {st st' : State} {i i' n n' : ℕ} → st ≡ st' → i ≡ i' → n ≡ n'
-    → ◌≡◌ {A = Fed} (record { refusal = Accepted; state = st; consumed = i; count = n }) (record { refusal = Accepted; state = st'; consumed = i'; count = n' })
+    → ◌≡◌ {A = Fed} (record { refusal = Ok tt; state = st; consumed = i; count = n }) (record { refusal = Ok tt; state = st'; consumed = i'; count = n' })
 fed_is a b c = rw (a, b, c) refl
 
 module _ {p : Profile} {l₀ : Lent} {bs : List ℕ} {st₀ : State} {l : Lent} {st : State} {i : ℕ} (t : Turned p l₀ bs st₀ l st i) where
@@ -82,9 +81,9 @@ module _ {p : Profile} {l₀ : Lent} {bs : List ℕ} {st₀ : State} {l : Lent} 
   d = feed_of p start bs
 
   -- no byte is left
-  pub ran_end : {count : ℕ} → count ≡ 0 → length bs ≤ i → Ran d bs l₀ l (record { refusal = Accepted; state = st; consumed = i; count = count })
+  pub ran_end : {count : ℕ} → count ≡ 0 → length bs ≤ i → Ran d bs l₀ l (record { refusal = Ok tt; state = st; consumed = i; count = count })
   ran_end {count} z h =
-      subst (λ (x : Delivery). Ran x bs l₀ l (record { refusal = Accepted; state = st; consumed = i; count = count }))
+      subst (λ (x : Delivery). Ran x bs l₀ l (record { refusal = Ok tt; state = st; consumed = i; count = count }))
       (sym (reached_end p start bs i m t.rest h))
       (record {
         is = fed_is refl refl z;
@@ -185,11 +184,11 @@ module _ {p : Profile} {l₀ : Lent} {bs : List ℕ} {st₀ : State} {l : Lent} 
   -- what the rest gives, given after the bytes before it
   pub ran_rest : {f : Fed} {after : Lent} → i < length bs
       → Ran (feed_of p m (take (length bs - i) (drop i bs))) (take (length bs - i) (drop i bs)) l after f
-      → Ran d bs l₀ after (record { refusal = Accepted; state = f.state; consumed = i + f.consumed; count = f.count })
+      → Ran d bs l₀ after (record { refusal = Ok tt; state = f.state; consumed = i + f.consumed; count = f.count })
   ran_rest {f} {after} h from-rest =
       let whole : take (length bs - i) (drop i bs) ≡ drop i bs = take_all (length bs - i) (drop i bs) (omega (arith, length-drop i bs)) in
       let k : Ran (feed_of p m (drop i bs)) (drop i bs) l after f = subst (λ (x : List ℕ). Ran (feed_of p m x) x l after f) whole from-rest in
-      subst (λ (x : Delivery). Ran x bs l₀ after (record { refusal = Accepted; state = f.state; consumed = i + f.consumed; count = f.count }))
+      subst (λ (x : Delivery). Ran x bs l₀ after (record { refusal = Ok tt; state = f.state; consumed = i + f.consumed; count = f.count }))
       (sym t.rest)
       (record {
         is = fed_is (ap (λ (x : Fed). x.state) k.is) (let c = ap (λ (x : Fed). x.consumed) k.is in omega arith) (ap (λ (x : Fed). x.count) k.is);
@@ -226,11 +225,11 @@ module _ {p : Profile} {l₀ : Lent} {bs : List ℕ} {st₀ : State} {l : Lent} 
         }
 
     -- a byte with a reply ends the run
-    pub ran_reply : (r.count ≡ 0 → ⊥) → Ran d bs l₀ after (record { refusal = Accepted; state = r.state; consumed = i + 1; count = r.count })
+    pub ran_reply : (r.count ≡ 0 → ⊥) → Ran d bs l₀ after (record { refusal = Ok tt; state = r.state; consumed = i + 1; count = r.count })
     ran_reply z =
         let some : 0 < length s.reply = answered (length s.reply) (λ e. z (left.count ∙ e)) in
         let k : 1 + i ≡ i + 1 = omega arith in
-        subst (λ (x : Delivery). Ran x bs l₀ after (record { refusal = Accepted; state = r.state; consumed = i + 1; count = r.count }))
+        subst (λ (x : Delivery). Ran x bs l₀ after (record { refusal = Ok tt; state = r.state; consumed = i + 1; count = r.count }))
         (sym (reached_reply p start bs i m t.rest h some))
         (record {
           is = fed_is left.state (sym k) left.count;
@@ -262,8 +261,8 @@ fed_ran {found} refusal t d input st before after r e i h k =
 
 fed_not : (refusal : Refusal) (d : Delivery) (input : List ℕ) (st : State) (l : Lent) → is_accepted refusal ≡ false
     → FedBy refusal d input st l l (record { refusal = refusal; state = st; consumed = 0; count = 0 })
-fed_not Accepted d input st l e = impossible (cc)
-fed_not (By row) d input st l e = record { is = refl; lent = refl }
+fed_not (Ok tt) d input st l e = impossible (cc)
+fed_not (Err row) d input st l e = record { is = refl; lent = refl }
 
 pub fed_refused : (refusal found : Refusal) (t : Bool) (d : Delivery) (input : List ℕ) (st : State) (l : Lent) → found ≡ refusal → t ≡ is_accepted found → t ≡ false
     → FedBy refusal d input st l l (record { refusal = found; state = st; consumed = 0; count = 0 })
@@ -274,8 +273,8 @@ fed_refused refusal found t d input st l e i h =
 -- either way the number is that of the refusal
 fed_number : (refusal : Refusal) (d : Delivery) (input : List ℕ) (st : State) (before after : Lent) (r : Fed) → FedBy refusal d input st before after r
     → number_of r.refusal ≡ number_of refusal
-fed_number Accepted d input st before after r f = ap (λ (x : Fed). number_of x.refusal) f.is
-fed_number (By row) d input st before after r f = ap (λ (x : Fed). number_of x.refusal) f.is
+fed_number (Ok tt) d input st before after r f = ap (λ (x : Fed). number_of x.refusal) f.is
+fed_number (Err row) d input st before after r f = ap (λ (x : Fed). number_of x.refusal) f.is
 
 pub feeds : {p : Profile} {st : State} {input : List ℕ} {before after : Lent} {r : Fed}
     → FedBy (feed_refusal p st before) (feed_of p (machine_of st before) input) input st before after r → Feeds p st input before after r

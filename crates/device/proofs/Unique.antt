@@ -9,12 +9,11 @@ use Rattle.verdict.proofs.OneAnswer.{one_answer}
 use Rattle.profile.specs.declared.Profile.{Profile}
 use Rattle.state.specs.declared.State.{State}
 use Rattle.state.specs.State.{zero_state}
-use Rattle.device_calls.specs.declared.Refusal.{Refusal}
-use Rattle.device_calls.specs.declared.Refusal.TheVariants.{Accepted, By}
 use Rattle.device_calls.specs.declared.Started.{Started}
-use Rattle.device_calls.specs.Calls.{Lent, is_accepted, Starts}
+use Rattle.device_calls.specs.Calls.{Lent, is_accepted, Starts, Refusal}
 use Rattle.device_steps.specs.Feed.{Delivery}
 use Rattle.device.specs.declared.Fed.{Fed}
+use Rattle.std.specs.Prelude.{Ok, Err}
 use Rattle.device.specs.Post.{FedBy}
 
 -- starting and resetting
@@ -31,11 +30,11 @@ module _ (d : Delivery) (input : List ℕ) (st : State) (before after after' : L
   -- a refused feed fixes the whole receive buffer
   pub refused_received : (refusal : Refusal) → is_accepted refusal ≡ false → FedBy refusal d input st before after r → FedBy refusal d input st before after' r'
       → after.receive ≡ after'.receive
-  refused_received Accepted e a b = let z : ◌≡◌ {A = ℕ} 0 1 = cc in absurd (omega arith)
-  refused_received (By row) e a b = ap (λ (l : Lent). l.receive) (a.lent ∙ sym b.lent)
+  refused_received (Ok tt) e a b = let z : ◌≡◌ {A = ℕ} 0 1 = cc in absurd (omega arith)
+  refused_received (Err row) e a b = ap (λ (l : Lent). l.receive) (a.lent ∙ sym b.lent)
 
 -- empty input fixes it too, and changes nothing at all
 pub idle_received : (refusal : Refusal) (d : Delivery) (input : List ℕ) (st : State) (before after : Lent) (r : Fed) → length input ≡ 0
     → FedBy refusal d input st before after r → after.receive ≡ before.receive
-idle_received Accepted d input st before after r e a = a.idle e
-idle_received (By row) d input st before after r e a = ap (λ (l : Lent). l.receive) a.lent
+idle_received (Ok tt) d input st before after r e a = a.idle e
+idle_received (Err row) d input st before after r e a = ap (λ (l : Lent). l.receive) a.lent

@@ -14,7 +14,7 @@ ghost use Rattle.device_steps.specs.Feed.{feed_of};
 ghost use Rattle.device.specs.Steps.{RangeIn, acted, Stood, Holding, Added};
 ghost use Rattle.device.specs.Post.{Ran};
 
-use crate::{Fed, Refusal};
+use crate::Fed;
 use answer::{Answered, in_stage, tell};
 use answer_command::answer_command;
 use answer_transfer::{answer_next, answer_write};
@@ -24,31 +24,16 @@ use packet::{Kind, Progress};
 use packet_gather::gather;
 use profile::Profile;
 use state::{Awaited, Stage, State, awaits, with_held};
-use verdict::{Reason, Verdict};
+use verdict::Reason;
 
-// COM or RES of an early refusal.
-fn early_code(stage: Stage) -> u8
-    ensures { result ≡ (early_of stage).0 }
+// COM or RES of an early refusal, and the stage that it leads to: a transfer ends.
+fn early(stage: Stage) -> (u8, Stage)
+    ensures { result ≡ early_of stage }
 {
     match stage {
-        Stage::Setting(_) => 0x00,
-        Stage::Authentication => 0x00,
-        Stage::Command => 0x00,
-        Stage::Writing(_) => packet_fields::WRITE,
-        Stage::Reading(_) => packet_fields::READ,
-    }
-}
-
-// The stage that it leads to: a transfer ends.
-fn end_of(stage: Stage) -> Stage
-    ensures { result ≡ (early_of stage).1 }
-{
-    match stage {
-        Stage::Setting(_) => stage,
-        Stage::Authentication => stage,
-        Stage::Command => stage,
-        Stage::Writing(_) => Stage::Command,
-        Stage::Reading(_) => Stage::Command,
+        Stage::Setting(_) | Stage::Authentication | Stage::Command => (0x00, stage),
+        Stage::Writing(_) => (packet_fields::WRITE, Stage::Command),
+        Stage::Reading(_) => (packet_fields::READ, Stage::Command),
     }
 }
 
@@ -57,28 +42,26 @@ fn refuse_early(state: State, reply: &mut [u8]) -> Answered
     requires { Roomy reply.old }
     ensures { Answers (refused_early state) result reply.old reply.new }
 {
-    let stage = state.stage;
-    let code = early_code(stage);
-    let next = in_stage(state, end_of(stage));
+    let (code, end) = early(state.stage);
     tell(
         reply,
         Act::Nothing,
-        next,
+        in_stage(state, end),
         code,
-        Verdict::Refused(Reason::LengthRefused),
+        Err(Reason::LengthRefused),
     )
 }
 
 // What answers a complete packet. Setting awaits none.
+#[tactic(auto, using(answer::proofs::Sending::answers_as, crate::proofs::Steps::answer_at))]
 fn decide(profile: Profile, image: &[u8], state: State, packet: &[u8], reply: &mut [u8]) -> Answered
     requires { AcceptedProfile profile × RangeIn state.stage × Roomy reply.old }
     ensures { Answers (answer_of profile image.now state state.stage packet.now) result reply.old reply.new }
 {
-    let stage = state.stage;
-    match stage {
-        Stage::Setting(_) => answer_command(profile, image, state, packet, reply),
-        Stage::Authentication => answer_command(profile, image, state, packet, reply),
-        Stage::Command => answer_command(profile, image, state, packet, reply),
+    match state.stage {
+        Stage::Setting(_) | Stage::Authentication | Stage::Command => {
+            answer_command(profile, image, state, packet, reply)
+        }
         Stage::Writing(range) => answer_write(profile, image, state, range, packet, reply),
         Stage::Reading(range) => answer_next(profile, image, state, range, packet, reply),
     }
@@ -112,13 +95,11 @@ fn listen(
     let at = state.held;
     receive[at] = byte;
     let n = at + 1;
-    let progress = packet::gathered(&receive[..n], kind);
-    match progress {
-        Progress::Astray => holding(state, 0),
+    match packet::gathered(&receive[..n], kind) {
+        Progress::Astray | Progress::Excess => holding(state, 0),
         Progress::Partial => holding(state, n),
         Progress::Unfit => refuse_early(state, reply),
         Progress::Complete => decide(profile, image, state, &receive[..n], reply),
-        Progress::Excess => holding(state, 0),
     }
 }
 
@@ -135,9 +116,7 @@ fn step(
     ensures { Stood (step_of profile (machine_of state (buffers image.now receive.old reply.old)) byte) profile
         (buffers image.now receive.old reply.old) (acted profile image.now result.act (state.held + 1) receive.new reply.new) result }
 {
-    let stage = state.stage;
-    let awaited = awaits(stage);
-    match awaited {
+    match awaits(state.stage) {
         Awaited::WakeUp(pulse) => wake(profile, image, state, pulse, byte, reply),
         Awaited::Packet(kind) => listen(profile, image, state, kind, receive, reply, byte),
     }
@@ -148,8 +127,7 @@ fn add(stage: Stage, held: usize, receive: &mut [u8], input: &[u8]) -> usize
     requires { Holding (awaits_of stage) held receive.old }
     ensures { Added (awaits_of stage) held input.now result receive.old receive.new }
 {
-    let awaited = awaits(stage);
-    match awaited {
+    match awaits(stage) {
         Awaited::WakeUp(_) => 0,
         Awaited::Packet(kind) => gather(kind, held, receive, input),
     }
@@ -170,27 +148,25 @@ fn turns(
         (buffers image.old receive.old reply.old) (buffers image.new receive.new reply.new) result }
 {
     let mut now_state = state;
+    // The place stays a number: `consumed` is that number, and over a rest it would be reckoned besides.
     let mut i = 0;
     let mut count = 0;
     while i < input.len() {
         let n = now_state.held + 1;
         let s = step(profile, image, now_state, receive, reply, input[i]);
-        let act = s.act;
-        flash::perform(image, profile, act, packet_fields::info(&receive[..n]));
+        flash::perform(image, profile, s.act, packet_fields::info(&receive[..n]));
         now_state = s.state;
         i += 1;
         count = s.count;
         if count != 0 {
             break;
         }
-        let stage = now_state.stage;
-        let held = now_state.held;
-        let taken = add(stage, held, receive, &input[i..]);
-        now_state = with_held(now_state, held + taken);
+        let taken = add(now_state.stage, now_state.held, receive, &input[i..]);
+        now_state = with_held(now_state, now_state.held + taken);
         i += taken;
     }
     Fed {
-        refusal: Refusal::Accepted,
+        refusal: Ok(()),
         state: now_state,
         consumed: i,
         count,
@@ -210,23 +186,20 @@ pub(crate) fn run(
     ensures { Ran (feed_of profile (machine_of state (buffers image.old receive.old reply.old)) input.now) input.now
         (buffers image.old receive.old reply.old) (buffers image.new receive.new reply.new) result }
 {
-    let stage = state.stage;
-    let held = state.held;
-    let taken = add(stage, held, receive, input);
-    let first = with_held(state, held + taken);
+    let taken = add(state.stage, state.held, receive, input);
+    let first = with_held(state, state.held + taken);
     if input.len() <= taken {
         return Fed {
-            refusal: Refusal::Accepted,
+            refusal: Ok(()),
             state: first,
             consumed: taken,
             count: 0,
         };
     }
     let rest = turns(profile, image, first, receive, reply, &input[taken..]);
-    let last = rest.state;
     Fed {
-        refusal: Refusal::Accepted,
-        state: last,
+        refusal: Ok(()),
+        state: rest.state,
         consumed: taken + rest.consumed,
         count: rest.count,
     }

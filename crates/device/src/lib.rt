@@ -21,7 +21,8 @@ pub struct Fed {
     pub count: usize,
 }
 
-// Received bytes, up to the one that completes the first reply.
+// Received bytes, up to the one that completes the first reply. Profile, state and the three lent buffers stay parameters, here and below: they are
+// what C lends, and the promise says of each what it becomes.
 pub fn feed(
     profile: Profile,
     image: &mut [u8],

@@ -1,7 +1,6 @@
 -- Which calls are refused, with which number; what starting gives.
-use Rattle.std.specs.Prelude.{Bool, true, false, not, List, [], ◌∷◌, ◌++◌, ◌≡◌, ℕ, length, ltb, eqb}
-use Rattle.std.proofs.Math.Option.{Option, none, some}
-use Rattle.verdict.specs.Check.{Check, ◌gives◌, first_fault, passes}
+use Rattle.std.specs.Prelude.{Bool, true, false, not, List, [], ◌∷◌, ◌++◌, ◌≡◌, ℕ, length, ltb, eqb, Option, Result, Ok, Err}
+use Rattle.verdict.specs.Check.{Check, ◌gives◌, first_fault, passes, verdict_of}
 use Rattle.profile.specs.declared.Profile.{Profile}
 use Rattle.profile.specs.Areas.{areas_of, total_of}
 use Rattle.profile_rules.specs.Rules.{profile_checks}
@@ -11,8 +10,6 @@ use Rattle.state.specs.State.{fresh_state}
 use Rattle.state.specs.Fits.{fits_of}
 use Rattle.device_calls.specs.declared.Row.{Row}
 use Rattle.device_calls.specs.declared.Row.TheVariants.{Unacceptable, WrongImage, WrongState, ShortReceive, ShortReply}
-use Rattle.device_calls.specs.declared.Refusal.{Refusal}
-use Rattle.device_calls.specs.declared.Refusal.TheVariants.{Accepted, By}
 use Rattle.device_calls.specs.declared.Started.{Started}
 
 -- the buffers that a call is lent
@@ -24,6 +21,10 @@ pub record Lent : Type 0 where
 abbrev pub buffers : List ℕ → List ℕ → List ℕ → Lent
 buffers image receive reply = record { image = image; receive = receive; reply = reply }
 
+-- a call is accepted, or refused by a row
+abbrev pub Refusal : Type 0
+Refusal = Result (Unit {0}) Row
+
 -- the paper's numbers; an accepted call has its own
 abbrev pub row_number : Row → ℕ
 row_number Unacceptable = 4
@@ -33,8 +34,8 @@ row_number ShortReceive = 2
 row_number ShortReply = 3
 
 abbrev pub number_of : Refusal → ℕ
-number_of Accepted = 0
-number_of (By row) = row_number row
+number_of (Ok tt) = 0
+number_of (Err row) = row_number row
 
 -- the rows of starting and resetting, for an image of n bytes
 unfoldable pub start_rows : Profile → ℕ → List (Check Row)
@@ -56,8 +57,7 @@ feed_rows p st l = start_rows p (length l.image) ++ buffer_rows p st l.receive (
 
 -- a call to which none of its rows applies is accepted
 abbrev pub refusal_of : Option Row → Refusal
-refusal_of none = Accepted
-refusal_of (some row) = By row
+refusal_of = verdict_of
 
 abbrev pub start_refusal : Profile → ℕ → Refusal
 start_refusal p n = refusal_of (first_fault (start_rows p n))
@@ -66,13 +66,13 @@ abbrev pub feed_refusal : Profile → State → Lent → Refusal
 feed_refusal p st l = refusal_of (first_fault (feed_rows p st l))
 
 abbrev pub is_accepted : Refusal → Bool
-is_accepted Accepted = true
-is_accepted (By row) = false
+is_accepted (Ok tt) = true
+is_accepted (Err row) = false
 
 -- the state that starting and resetting give, by the one before; starting has the zero state before
 abbrev pub started_at : Refusal → Profile → State → State
-started_at Accepted p before = fresh_state p
-started_at (By row) p before = before
+started_at (Ok tt) p before = fresh_state p
+started_at (Err row) p before = before
 
 -- what they answer
 abbrev pub started_by : Refusal → Profile → State → Started

@@ -28,11 +28,7 @@ pub enum Row {
 }
 
 // A call is accepted, or refused by a row.
-#[derive(Clone, Copy)]
-pub enum Refusal {
-    Accepted,
-    By(Row),
-}
+pub type Refusal = Result<(), Row>;
 
 // What starting and resetting answer.
 #[derive(Clone, Copy)]
@@ -45,29 +41,19 @@ pub struct Started {
 pub fn start(profile: Profile, image: &[u8]) -> Started
     ensures { Starts profile (length image.now) zero_state result }
 {
-    let refusal = unstarted(profile, image.len());
-    if is_accepted(refusal) {
-        return Started {
-            refusal,
-            state: state::fresh(profile),
-        };
-    }
-    Started {
-        refusal,
-        state: state::zero(),
-    }
+    reset(profile, image, state::zero())
 }
 
 // Starting again, whatever the state was; a refused reset leaves it.
+#[tactic(auto, using(crate::proofs::Rows::starts, crate::proofs::Rows::started_fresh, crate::proofs::Rows::started_same))]
 pub fn reset(profile: Profile, image: &[u8], state: State) -> Started
     ensures { Starts profile (length image.now) state result }
 {
     let refusal = unstarted(profile, image.len());
-    if is_accepted(refusal) {
-        return Started {
-            refusal,
-            state: state::fresh(profile),
-        };
-    }
+    let state = if is_accepted(refusal) {
+        state::fresh(profile)
+    } else {
+        state
+    };
     Started { refusal, state }
 }

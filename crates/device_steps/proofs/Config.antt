@@ -9,15 +9,15 @@ use lib.Dec.{ltb, eqb}
 use borrow.Author.Tests.{ltb-false}
 use Rattle.profile.specs.declared.Area.{Area}
 use Rattle.profile.specs.declared.Spot.{Spot}
-use Rattle.profile.specs.declared.Place.TheVariants.{In}
 use Rattle.profile.specs.Areas.{size_of, tally, total_of}
 use Rattle.profile_rules.specs.Rules.{config, small_config}
+use Rattle.std.specs.Prelude.{Some}
 use Rattle.id_code.specs.Identity.{config_from}
 
 -- the config area that is found has sixteen bytes before the areas' end
 pub record ConfigThere (base : ℕ) (areas : List Area) : Type 0 where
   pub spot : Spot
-  pub found : config_from base areas ≡ In spot
+  pub found : config_from base areas ≡ Some spot
   pub enough : spot.base + 16 ≤ base + total_of areas
 
 pub config_there : (base : ℕ) (areas : List Area) → 1 ≤ tally config areas → tally small_config areas ≡ 0 → ConfigThere base areas

@@ -2,7 +2,7 @@
 use mathlib.Core.Bool.{Bool, true, false, cond}
 use mathlib.Core.List.{List, []}
 use mathlib.Core.Logic.{◌⊎◌, ⊎_elim, ◌↔◌}
-use mathlib.Core.Option.{Option, none, some}
+use Rattle.std.specs.Prelude.{Option, None, Some, Ok, Err}
 use mathlib.Core.Path.{◌≡◌, refl, sym, ap, subst, ◌∙◌}
 use Prim.Native.Nat.{ℕ, ◌+◌, ◌≤◌, ◌<◌}
 use native.Mathlib.Omega.{arith}
@@ -11,9 +11,7 @@ use lib.Dec.{ltb}
 use borrow.Author.Tests.{ltb-true, ltb-false}
 use Rattle.numbers.specs.Bytes.{bytes_of}
 use Rattle.verdict.specs.declared.Reason.{Reason}
-use Rattle.verdict.specs.declared.Verdict.{Verdict}
-use Rattle.verdict.specs.declared.Verdict.TheVariants.{Granted, Refused}
-use Rattle.verdict.specs.Check.{Check, first_fault, NoneApplies, verdict_of}
+use Rattle.verdict.specs.Check.{Check, first_fault, NoneApplies, verdict_of, Verdict}
 use Rattle.verdict.proofs.FirstFault.{clear, grants}
 use Rattle.profile.specs.declared.Profile.{Profile}
 use Rattle.profile.specs.Areas.{areas_of}
@@ -48,12 +46,12 @@ use Rattle.device_steps.specs.Records.{is_unfit, progress_in, heard_with, comple
 
 -- a refusal: its status reply; nothing is done to the flash, and only the stage changes
 pub record RefusedWith (request : ℕ) (reason : Reason) (to : Stage) (st : State) (a : Answer) : Type 0 where
-  pub reply : a.reply ≡ status_reply request (Refused reason)
+  pub reply : a.reply ≡ status_reply request (Err reason)
   pub act : a.act ≡ Nothing
   pub state : a.state ≡ moved to st
 
 -- granted exactly where no fault applies
-pub granted_exactly : {A : Type 0} (cs : List (Check A)) → (first_fault cs ≡ none) ↔ NoneApplies cs
+pub granted_exactly : {A : Type 0} (cs : List (Check A)) → (first_fault cs ≡ None) ↔ NoneApplies cs
 granted_exactly cs = (clear cs, grants cs)
 
 -- a complete command
@@ -61,44 +59,44 @@ module _ (p : Profile) (image : List ℕ) (st : State) (q : List ℕ) where
   abbrev checks : List (Check Reason)
   checks = command_checks p st q
 
-  pub command_refused : (reason : Reason) → first_fault checks ≡ some reason
+  pub command_refused : (reason : Reason) → first_fault checks ≡ Some reason
       → RefusedWith (code_at q) reason st.stage st (answer_command p image st q)
   unfolding answer_command decided
   command_refused reason e =
       subst (λ (f : Option Reason). RefusedWith (code_at q) reason st.stage st (decided p image st q (verdict_of f))) (sym e)
       (record { reply = refl; act = refl; state = refl })
 
-  pub command_granted : first_fault checks ≡ none → answer_command p image st q ≡ grant_of p image st q (com_of (code_at q))
+  pub command_granted : first_fault checks ≡ None → answer_command p image st q ≡ grant_of p image st q (com_of (code_at q))
   unfolding answer_command decided
   command_granted e = ap (λ (f : Option Reason). decided p image st q (verdict_of f)) e
 
 -- a packet of a write that is under way
 module _ (p : Profile) (image : List ℕ) (st : State) (r : Range) (q : List ℕ) where
-  pub write_refused : (reason : Reason) → first_fault (write_checks (areas_of p) image r q) ≡ some reason
+  pub write_refused : (reason : Reason) → first_fault (write_checks (areas_of p) image r q) ≡ Some reason
       → RefusedWith 0x13 reason Command st (answer_write p image st r q)
   unfolding answer_write write_decided
   write_refused reason e =
       subst (λ (f : Option Reason). RefusedWith 0x13 reason Command st (write_decided st r q (verdict_of f))) (sym e)
       (record { reply = refl; act = refl; state = refl })
 
-  pub write_granted : first_fault (write_checks (areas_of p) image r q) ≡ none
+  pub write_granted : first_fault (write_checks (areas_of p) image r q) ≡ None
       → answer_write p image st r q
       ≡ record {
         act = Store r.next (info_count q);
         state = moved (after Writing r (info_count q)) st;
-        reply = status_reply 0x13 Granted;
+        reply = status_reply 0x13 (Ok tt);
       }
   unfolding answer_write write_decided
   write_granted e = ap (λ (f : Option Reason). write_decided st r q (verdict_of f)) e
 
   -- a request for the next packet of a read
-  pub next_refused : (reason : Reason) → first_fault (next_checks q) ≡ some reason → RefusedWith 0x15 reason Command st (answer_next p image st r q)
+  pub next_refused : (reason : Reason) → first_fault (next_checks q) ≡ Some reason → RefusedWith 0x15 reason Command st (answer_next p image st r q)
   unfolding answer_next next_decided
   next_refused reason e =
       subst (λ (f : Option Reason). RefusedWith 0x15 reason Command st (next_decided p image st r (verdict_of f))) (sym e)
       (record { reply = refl; act = refl; state = refl })
 
-  pub next_granted : first_fault (next_checks q) ≡ none → answer_next p image st r q ≡ read_packet p image st r
+  pub next_granted : first_fault (next_checks q) ≡ None → answer_next p image st r q ≡ read_packet p image st r
   unfolding answer_next next_decided
   next_granted e = ap (λ (f : Option Reason). next_decided p image st r (verdict_of f)) e
 
@@ -140,9 +138,9 @@ entered_res : (p : Profile) (st : State) (q : List ℕ) → res_at (entered p st
 unfolding entered
 entered_res p st q = by_test (total_erase st.id (info_of q))
   where
-    by_test : (t : Bool) → res_at (cond t (told q Granted EraseAll (fresh_state p)) (told q Granted Nothing (moved Command st))).reply ≡ code_at q
-    by_test true = status_res (code_at q) Granted
-    by_test false = status_res (code_at q) Granted
+    by_test : (t : Bool) → res_at (cond t (told q (Ok tt) EraseAll (fresh_state p)) (told q (Ok tt) Nothing (moved Command st))).reply ≡ code_at q
+    by_test true = status_res (code_at q) (Ok tt)
+    by_test false = status_res (code_at q) (Ok tt)
 
 grant_res : (p : Profile) (image : List ℕ) (st : State) (q : List ℕ) → code_at q < 128 → (cmd : Com) → res_at (grant_of p image st q cmd).reply < 128
 unfolding grant_of read_packet frame bytes_of
@@ -157,16 +155,16 @@ grant_res p image st q h Area = omega arith
 grant_res p image st q h Unknown = h
 
 -- where every refusal has the bit, and a grant doesn't, the answer is granted exactly without it
-by_res : (cs : List (Check Reason)) (res : ℕ) → ((reason : Reason) → first_fault cs ≡ some reason → 128 ≤ res) → (first_fault cs ≡ none → res < 128)
-    → (first_fault cs ≡ none) ↔ (res < 128)
+by_res : (cs : List (Check Reason)) (res : ℕ) → ((reason : Reason) → first_fault cs ≡ Some reason → 128 ≤ res) → (first_fault cs ≡ None → res < 128)
+    → (first_fault cs ≡ None) ↔ (res < 128)
 by_res cs res refused granted = (granted, λ h. by_fault (first_fault cs) refl h)
   where
-    by_fault : (f : Option Reason) → first_fault cs ≡ f → res < 128 → first_fault cs ≡ none
-    by_fault none e h = e
-    by_fault (some reason) e h = let k : 128 ≤ res = refused reason e in absurd (omega arith)
+    by_fault : (f : Option Reason) → first_fault cs ≡ f → res < 128 → first_fault cs ≡ None
+    by_fault None e h = e
+    by_fault (Some reason) e h = let k : 128 ≤ res = refused reason e in absurd (omega arith)
 
 pub command_told_lem : (p : Profile) (image : List ℕ) (st : State) (q : List ℕ)
-    → (first_fault (command_checks p st q) ≡ none) ↔ (res_at (answer_command p image st q).reply < 128)
+    → (first_fault (command_checks p st q) ≡ None) ↔ (res_at (answer_command p image st q).reply < 128)
 command_told_lem p image st q =
     by_res (command_checks p st q) (res_at (answer_command p image st q).reply) (λ reason e. refused_res (command_refused p image st q reason e))
     (λ e.
@@ -174,13 +172,13 @@ command_told_lem p image st q =
     rw (command_granted p image st q e) (grant_res p image st q h (com_of (code_at q))))
 
 module _ (p : Profile) (image : List ℕ) (st : State) (r : Range) (q : List ℕ) where
-  pub write_told : (first_fault (write_checks (areas_of p) image r q) ≡ none) ↔ (res_at (answer_write p image st r q).reply < 128)
+  pub write_told : (first_fault (write_checks (areas_of p) image r q) ≡ None) ↔ (res_at (answer_write p image st r q).reply < 128)
   unfolding frame bytes_of
   write_told =
       by_res (write_checks (areas_of p) image r q) (res_at (answer_write p image st r q).reply) (λ reason e. refused_res (write_refused p image st r q reason e))
       (λ e. rw (write_granted p image st r q e) (omega arith))
 
-  pub next_told : (first_fault (next_checks q) ≡ none) ↔ (res_at (answer_next p image st r q).reply < 128)
+  pub next_told : (first_fault (next_checks q) ≡ None) ↔ (res_at (answer_next p image st r q).reply < 128)
   unfolding read_packet frame bytes_of
   next_told =
       by_res (next_checks q) (res_at (answer_next p image st r q).reply) (λ reason e. refused_res (next_refused p image st r q reason e))

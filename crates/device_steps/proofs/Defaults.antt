@@ -2,7 +2,7 @@
 -- fits, its profile is accepted, and its image has the profile's length, each byte, entry and unit that is looked at is there. Assumes nothing.
 use mathlib.Core.Bool.{true}
 use mathlib.Core.List.{List, [], ◌∷◌, ◌++◌}
-use mathlib.Core.Option.{none}
+use Rattle.std.specs.Prelude.{None, Some, Ok}
 use mathlib.Core.Path.{◌≡◌, sym, ap, ◌∙◌}
 use Prim.Native.Nat.{ℕ, ◌+◌, ◌-◌, ◌≤◌, ◌<◌, min}
 use native.Mathlib.Omega.{arith}
@@ -17,7 +17,6 @@ use Rattle.baud.proofs.Divisors.{Divides, divides}
 use Rattle.profile.specs.declared.Area.{Area}
 use Rattle.profile.specs.declared.Profile.{Profile}
 use Rattle.profile.specs.declared.Spot.{Spot}
-use Rattle.profile.specs.declared.Place.TheVariants.{In, Nowhere}
 use Rattle.profile.specs.Areas.{areas_of, no_area, total_of}
 use Rattle.profile.specs.Places.{place_of}
 use Rattle.profile.proofs.Table.{areas_there}
@@ -56,7 +55,6 @@ use Rattle.check_transfer.proofs.Boundary.{unit_there as unit-permitted}
 use Rattle.check_transfer.proofs.There.{part_whole}
 use Rattle.answer_command.specs.Grants.{span_of}
 use Rattle.answer_transfer.specs.Transfers.{read_count}
-use Rattle.device_calls.specs.declared.Refusal.TheVariants.{Accepted as AcceptedCall}
 use Rattle.device_calls.specs.Calls.{Lent, feed_refusal}
 use Rattle.device_calls.specs.Ready.{Ready}
 use Rattle.device_calls.proofs.Rows.{rows_ready}
@@ -74,7 +72,7 @@ pub record Met (p : Profile) (m : Machine) : Type 0 where
   pub fits : FitMachine p m
   pub image : length m.image ≡ total_of (areas_of p)
 
-pub met : (p : Profile) (st : State) (l : Lent) → feed_refusal p st l ≡ AcceptedCall → (bs : List ℕ) → Met p (feed_of p (machine_of st l) bs).machine
+pub met : (p : Profile) (st : State) (l : Lent) → feed_refusal p st l ≡ Ok tt → (bs : List ℕ) → Met p (feed_of p (machine_of st l) bs).machine
 met p st l e bs =
     let r : Ready p st l = rows_ready p st l e in
     record {
@@ -152,7 +150,7 @@ module _ (p : Profile) (accepted : Accepted p) (m : Machine) (fits : FitMachine 
   reads r e = going (areas_of p) (window_of p m.state) ToRead r (ap (stage_fits (areas_of p) (window_of p m.state)) (sym e) ∙ fits.stage)
 
   -- every address that is left to write has a place, so no byte of a packet is dropped
-  pub target_placed : (r : Range) → m.state.stage ≡ Writing r → (x : ℕ) → r.next ≤ x → x < r.next + r.left → place_of (areas_of p) x ≡ Nowhere → ⊥
+  pub target_placed : (r : Range) → m.state.stage ≡ Writing r → (x : ℕ) → r.next ≤ x → x < r.next + r.left → place_of (areas_of p) x ≡ None → ⊥
   target_placed r e x from to =
       let g : Going (areas_of p) (window_of p m.state) ToWrite r = writes r e in
       granted_placed (areas_of p) (window_of p m.state) ToWrite r.next (r.next + r.left - 1) g.permits x from (omega arith)
@@ -175,7 +173,7 @@ module _ (p : Profile) (accepted : Accepted p) (m : Machine) (fits : FitMachine 
     pub read_whole : (r : Range) → m.state.stage ≡ Reading r → length (fetched (areas_of p) r.next (read_count r) m.image) ≡ read_count r
     read_whole r e = front_whole ToRead r (reads r e) (read_count r) (omega arith)
 
-    pub first_whole : (q : List ℕ) → first_fault (command_checks p m.state q) ≡ none → com_of (code_at q) ≡ Read
+    pub first_whole : (q : List ℕ) → first_fault (command_checks p m.state q) ≡ None → com_of (code_at q) ≡ Read
         → length (fetched (areas_of p) (sad_of q) (read_count (span_of (sad_of q) (ead_of q))) m.image) ≡ read_count (span_of (sad_of q) (ead_of q))
     first_whole q granted e =
         let r : Range = span_of (sad_of q) (ead_of q) in
@@ -188,12 +186,12 @@ module _ (p : Profile) (accepted : Accepted p) (m : Machine) (fits : FitMachine 
     target_whole r e = front_whole ToWrite r (writes r e)
 
 -- a command that is granted
-module _ (p : Profile) (st : State) (q : List ℕ) (granted : first_fault (command_checks p st q) ≡ none) where
+module _ (p : Profile) (st : State) (q : List ℕ) (granted : first_fault (command_checks p st q) ≡ None) where
   pub unknown_not_granted : com_of (code_at q) ≡ Unknown → ⊥
   unknown_not_granted = (granted_form p st q granted).known
 
   -- every address that is erased has a place
-  pub erase_placed : com_of (code_at q) ≡ Erase → (x : ℕ) → sad_of q ≤ x → x ≤ ead_of q → place_of (areas_of p) x ≡ Nowhere → ⊥
+  pub erase_placed : com_of (code_at q) ≡ Erase → (x : ℕ) → sad_of q ≤ x → x ≤ ead_of q → place_of (areas_of p) x ≡ None → ⊥
   erase_placed e = granted_placed (areas_of p) (window_of p st) ToErase (sad_of q) (ead_of q) (granted_erase p st q granted e)
 
   -- an area's number is one of the areas', and the table, an array of eight entries, has its entry
@@ -229,7 +227,7 @@ module _ (p : Profile) (accepted : Accepted p) where
 -- the ID is sixteen bytes of the image
 pub record IdThere (areas : List Area) (image : List ℕ) : Type 0 where
   pub spot : Spot
-  pub found : config_from 0 areas ≡ In spot
+  pub found : config_from 0 areas ≡ Some spot
   pub is : id_of areas image ≡ take 16 (drop spot.base image)
   pub count : length (take 16 (drop spot.base image)) ≡ 16
 

@@ -5,7 +5,7 @@ use mathlib.Core.Path.{◌≡◌, refl}
 use Prim.Native.Nat.{ℕ, zero, suc}
 use lib.ListN.{length, drop}
 use lib.Dec.{eqb}
-use Rattle.numbers.specs.Bytes.{number, number_at, bytes_of}
+use Rattle.numbers.specs.Bytes.{number, value_at, bytes_of}
 use Rattle.verdict.specs.Check.{first_fault}
 use Rattle.profile.specs.Areas.{entries, inside}
 use Rattle.profile.specs.Places.{place_from}
@@ -87,5 +87,5 @@ table =
 pub examples_hold : (image : List ℕ) → map (λ (l : Line). replies (device_in l.stage image) l.sent) table ≡ map (λ (l : Line). l.back) table
 unfolding feed_of step_of step_in heard wake_of answer_command decided grant_of command_checks known_checks form_checks own_checks area_number_checks com_of com_in four_at fresh_state
     range_checks end_checks purpose_checks change_checks unit_checks window_checks limited entries inside place_from first_fault
-    progress_of measured_of length_of permitted ending_checks sum_of lack frame number number_at bytes_of signature_message
+    progress_of measured_of length_of permitted ending_checks sum_of lack frame number value_at bytes_of signature_message
 examples_hold image = refl

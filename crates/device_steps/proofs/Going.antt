@@ -1,7 +1,7 @@
 -- A granted range fits, and so does what is left of it as a write or a read goes on. Assumes nothing.
 use mathlib.Core.Bool.{Bool, true, false, ◌&&◌, cond}
 use mathlib.Core.List.{List, [], ◌∷◌}
-use mathlib.Core.Option.{Option, none, some}
+use Rattle.std.specs.Prelude.{Option, None, Some}
 use mathlib.Core.Path.{◌≡◌, refl, sym, subst}
 use Prim.Native.Nat.{ℕ, ◌+◌, ◌-◌, ◌%◌, ◌≤◌, ◌<◌}
 use native.Mathlib.Omega.{arith}
@@ -10,7 +10,6 @@ use borrow.Author.Tests.{leb-true, le-leb, eqb-false}
 use Rattle.verdict.specs.declared.Reason.{Reason}
 use Rattle.verdict.specs.Check.{first_fault, passes}
 use Rattle.profile.specs.declared.Area.{Area}
-use Rattle.profile.specs.declared.Place.TheVariants.{In}
 use Rattle.profile.specs.declared.Spot.{Spot}
 use Rattle.profile.specs.declared.Window.{Window}
 use Rattle.profile.specs.Places.{place_of, unit_at}
@@ -44,9 +43,9 @@ pub record Going (areas : List Area) (w : Window) (purpose : Purpose) (r : Range
   pub in_reach : r.next + r.left ≤ 0x100000000
   pub permits : Permitted areas w purpose r.next (r.next + r.left - 1)
 
-none_passes : (f : Option Reason) → passes f ≡ true → f ≡ none
-none_passes none e = refl
-none_passes (some reason) e = impossible (cc)
+none_passes : (f : Option Reason) → passes f ≡ true → f ≡ None
+none_passes None e = refl
+none_passes (Some reason) e = impossible (cc)
 
 module _ (areas : List Area) (w : Window) (purpose : Purpose) (r : Range) where
   pub going : range_fits areas w purpose r ≡ true → Going areas w purpose r
@@ -102,7 +101,7 @@ module _ (areas : List Area) (sound : Ascending 0 areas) (w : Window) where
     lies : (purpose : Purpose) → Going areas w purpose r → Lies areas w purpose r.next end
     lies purpose g = in_area_lem areas w purpose r.next end g.permits
 
-    same : (spot : Spot) → place_of areas r.next ≡ In spot → (x : ℕ) → spot.area.sad ≤ x → x ≤ spot.area.ead → place_of areas x ≡ In spot
+    same : (spot : Spot) → place_of areas r.next ≡ Some spot → (x : ℕ) → spot.area.sad ≤ x → x ≤ spot.area.ead → place_of areas x ≡ Some spot
     same spot f = whole_area 0 0 areas r.next spot (above 0 areas sound) f
 
     onward : (purpose : Purpose) → Going areas w purpose r → n < r.left → Permitted areas w purpose (r.next + n) end
@@ -119,7 +118,7 @@ module _ (areas : List Area) (sound : Ascending 0 areas) (w : Window) where
     unfolding stage_fits
     read_after g most =
         let l : Lies areas w ToRead r.next end = lies ToRead g in
-        let f : place_of areas r.next ≡ In l.spot = l.in_area.found in
+        let f : place_of areas r.next ≡ Some l.spot = l.in_area.found in
         after_fits areas w Reading r n most
         (λ h. onward ToRead g h (split_read areas w r.next end n l.spot f (same l.spot f) (omega arith) g.permits))
 
@@ -129,7 +128,7 @@ module _ (areas : List Area) (sound : Ascending 0 areas) (w : Window) where
     unfolding stage_fits
     write_after g any d most =
         let l : Lies areas w ToWrite r.next end = lies ToWrite g in
-        let f : place_of areas r.next ≡ In l.spot = l.in_area.found in
+        let f : place_of areas r.next ≡ Some l.spot = l.in_area.found in
         let units : n % unit_at (place_of areas r.next) ≡ 0 =
         (same_boundary areas (above 0 areas sound) w r.next end n g.permits (omega arith) (omega arith)).0 d in
         after_fits areas w Writing r n most

@@ -9,9 +9,7 @@ use lib.ListN.{length, get_or}
 use lib.Dec.{eqb}
 use Rattle.numbers.specs.Bytes.{bytes_of}
 use Rattle.verdict.specs.declared.Reason.TheVariants.{LengthRefused}
-use Rattle.verdict.specs.declared.Verdict.{Verdict}
-use Rattle.verdict.specs.declared.Verdict.TheVariants.{Granted, Refused}
-use Rattle.verdict.specs.Check.{first_fault, verdict_of}
+use Rattle.verdict.specs.Check.{first_fault, verdict_of, Verdict}
 use Rattle.profile.specs.declared.Profile.{Profile}
 use Rattle.profile.specs.Areas.{areas_of, no_area}
 use Rattle.packet.specs.declared.Kind.TheVariants.{Data}
@@ -48,6 +46,7 @@ use Rattle.answer_waking.specs.Wake.{awake, woken, goes, wake_of}
 use Rattle.device_steps.specs.Step.{Machine, early_of, answer_of, heard, step_in, step_of}
 use Rattle.device_steps.specs.Feed.{Delivery, feed_of}
 use Rattle.device_steps.specs.Records.{is_unfit, progress_in, heard_with, completes, refuses, Brings}
+use Rattle.std.specs.Prelude.{Ok, Err}
 use Rattle.device_steps.proofs.Delivered.{by_reply, feed_none, FromByte, reply_is}
 
 -- a reply packet: a data packet of a permitted length
@@ -89,45 +88,45 @@ module _ (p : Profile) (image : List ℕ) (st : State) where
   unfolding entered
   entered_packet q = by_test (total_erase st.id (info_of q))
     where
-      by_test : (t : Bool) → IsPacket (cond t (told q Granted EraseAll (fresh_state p)) (told q Granted Nothing (moved Command st))).reply
-      by_test true = status_packet (code_at q) Granted
-      by_test false = status_packet (code_at q) Granted
+      by_test : (t : Bool) → IsPacket (cond t (told q (Ok tt) EraseAll (fresh_state p)) (told q (Ok tt) Nothing (moved Command st))).reply
+      by_test true = status_packet (code_at q) (Ok tt)
+      by_test false = status_packet (code_at q) (Ok tt)
 
   grant_packet : (q : List ℕ) (cmd : Com) → IsPacket (grant_of p image st q cmd).reply
   unfolding grant_of signature_message area_message bytes_of
-  grant_packet q Inquiry = status_packet (code_at q) Granted
-  grant_packet q Erase = status_packet (code_at q) Granted
-  grant_packet q Write = status_packet (code_at q) Granted
+  grant_packet q Inquiry = status_packet (code_at q) (Ok tt)
+  grant_packet q Erase = status_packet (code_at q) (Ok tt)
+  grant_packet q Write = status_packet (code_at q) (Ok tt)
   grant_packet q Read = read_packet_lem (span_of (sad_of q) (ead_of q))
   grant_packet q Authenticate = entered_packet q
-  grant_packet q Baud = status_packet (code_at q) Granted
+  grant_packet q Baud = status_packet (code_at q) (Ok tt)
   grant_packet q Signature = data_packet 0x3A (signature_message p) (omega arith)
   grant_packet q AreaCommand = data_packet 0x3B (area_message (get_or p.areas (area_number_of q) no_area)) (omega arith)
-  grant_packet q Unknown = status_packet (code_at q) Granted
+  grant_packet q Unknown = status_packet (code_at q) (Ok tt)
 
   pub command_packet : (q : List ℕ) → IsPacket (answer_command p image st q).reply
   unfolding answer_command decided
   command_packet q = by_verdict (verdict_of (first_fault (command_checks p st q)))
     where
       by_verdict : (v : Verdict) → IsPacket (decided p image st q v).reply
-      by_verdict Granted = grant_packet q (com_of (code_at q))
-      by_verdict (Refused reason) = status_packet (code_at q) (Refused reason)
+      by_verdict (Ok tt) = grant_packet q (com_of (code_at q))
+      by_verdict (Err reason) = status_packet (code_at q) (Err reason)
 
   pub write_packet : (r : Range) (q : List ℕ) → IsPacket (answer_write p image st r q).reply
   unfolding answer_write write_decided
   write_packet r q = by_verdict (verdict_of (first_fault (write_checks (areas_of p) image r q)))
     where
       by_verdict : (v : Verdict) → IsPacket (write_decided st r q v).reply
-      by_verdict Granted = status_packet 0x13 Granted
-      by_verdict (Refused reason) = status_packet 0x13 (Refused reason)
+      by_verdict (Ok tt) = status_packet 0x13 (Ok tt)
+      by_verdict (Err reason) = status_packet 0x13 (Err reason)
 
   pub next_packet : (r : Range) (q : List ℕ) → IsPacket (answer_next p image st r q).reply
   unfolding answer_next next_decided
   next_packet r q = by_verdict (verdict_of (first_fault (next_checks q)))
     where
       by_verdict : (v : Verdict) → IsPacket (next_decided p image st r v).reply
-      by_verdict Granted = read_packet_lem r
-      by_verdict (Refused reason) = status_packet 0x15 (Refused reason)
+      by_verdict (Ok tt) = read_packet_lem r
+      by_verdict (Err reason) = status_packet 0x15 (Err reason)
 
   -- whatever the stage
   answer_packet : (s : Stage) (q : List ℕ) → IsPacket (answer_of p image st s q).reply
@@ -185,7 +184,7 @@ module _ (p : Profile) (m : Machine) (q : List ℕ) where
   unfolding heard
   heard_packet Astray h = ⊎_elim (λ e. impossible (cc)) (λ e. impossible (cc)) h
   heard_packet Partial h = ⊎_elim (λ e. impossible (cc)) (λ e. impossible (cc)) h
-  heard_packet Unfit h = status_packet (early_of m.state.stage).0 (Refused LengthRefused)
+  heard_packet Unfit h = status_packet (early_of m.state.stage).0 (Err LengthRefused)
   heard_packet Complete h = answer_packet p m.image m.state m.state.stage q
   heard_packet Excess h = ⊎_elim (λ e. impossible (cc)) (λ e. impossible (cc)) h
 

@@ -1,14 +1,12 @@
 -- Each answer leaves a state that fits, with nothing held. Assumes nothing.
 use mathlib.Core.Bool.{Bool, true, false, cond}
 use mathlib.Core.List.{List, []}
-use mathlib.Core.Option.{none}
+use Rattle.std.specs.Prelude.{None, Ok, Err}
 use mathlib.Core.Path.{◌≡◌, refl}
 use Prim.Native.Nat.{ℕ}
 use native.Mathlib.Nat.{min-le_left}
 use lib.Dec.{eqb}
-use Rattle.verdict.specs.declared.Verdict.{Verdict}
-use Rattle.verdict.specs.declared.Verdict.TheVariants.{Granted, Refused}
-use Rattle.verdict.specs.Check.{first_fault, verdict_of}
+use Rattle.verdict.specs.Check.{first_fault, verdict_of, Verdict}
 use Rattle.verdict.proofs.FirstFault.{granted_clear}
 use Rattle.profile.specs.declared.Profile.{Profile}
 use Rattle.profile.specs.Areas.{areas_of}
@@ -100,7 +98,7 @@ module _ (p : Profile) (areas-sound : Ascending 0 (areas_of p)) (image : List �
       either (Settles p) _ _ (total_erase st.id (info_of q)) (record { none_held = refl; stage = refl }) (record { none_held = refl; stage = refl })
 
   module _ (fits : stage_fits (areas_of p) (window_of p st) st.stage ≡ true) where
-    grant_settles : (q : List ℕ) → first_fault (command_checks p st q) ≡ none → (cmd : Com) → com_of (code_at q) ≡ cmd → Settles p (grant_of p image st q cmd)
+    grant_settles : (q : List ℕ) → first_fault (command_checks p st q) ≡ None → (cmd : Com) → com_of (code_at q) ≡ cmd → Settles p (grant_of p image st q cmd)
     unfolding grant_of stage_fits
     grant_settles q g Inquiry e = record { none_held = refl; stage = fits }
     grant_settles q g Erase e = record { none_held = refl; stage = fits }
@@ -124,15 +122,15 @@ module _ (p : Profile) (areas-sound : Ascending 0 (areas_of p)) (image : List �
     command_settles q = go (verdict_of (first_fault (command_checks p st q))) refl
       where
         go : (v : Verdict) → verdict_of (first_fault (command_checks p st q)) ≡ v → Settles p (decided p image st q v)
-        go Granted e = grant_settles q (granted_clear (first_fault (command_checks p st q)) e) (com_of (code_at q)) refl
-        go (Refused reason) e = record { none_held = refl; stage = fits }
+        go (Ok tt) e = grant_settles q (granted_clear (first_fault (command_checks p st q)) e) (com_of (code_at q)) refl
+        go (Err reason) e = record { none_held = refl; stage = fits }
 
   pub write_settles : (r : Range) → Going (areas_of p) (window_of p st) ToWrite r → (q : List ℕ) → Settles p (answer_write p image st r q)
   unfolding answer_write write_decided stage_fits
   write_settles r g q = go (verdict_of (first_fault (write_checks (areas_of p) image r q))) refl
     where
       go : (v : Verdict) → verdict_of (first_fault (write_checks (areas_of p) image r q)) ≡ v → Settles p (write_decided st r q v)
-      go Granted e =
+      go (Ok tt) e =
           let c = granted_clear (first_fault (write_checks (areas_of p) image r q)) e in
           record {
             none_held = refl;
@@ -140,15 +138,15 @@ module _ (p : Profile) (areas-sound : Ascending 0 (areas_of p)) (image : List �
                 write_after (areas_of p) areas-sound (window_of p st) r (info_count q) g (write_any (areas_of p) image r q c)
                 (write_units (areas_of p) image r q c) (write_most (areas_of p) image r q c);
           }
-      go (Refused reason) e = record { none_held = refl; stage = refl }
+      go (Err reason) e = record { none_held = refl; stage = refl }
 
   pub next_settles : (r : Range) → Going (areas_of p) (window_of p st) ToRead r → (q : List ℕ) → Settles p (answer_next p image st r q)
   unfolding answer_next next_decided stage_fits
   next_settles r g q = go (verdict_of (first_fault (next_checks q)))
     where
       go : (v : Verdict) → Settles p (next_decided p image st r v)
-      go Granted = read_settles r g
-      go (Refused reason) = record { none_held = refl; stage = refl }
+      go (Ok tt) = read_settles r g
+      go (Err reason) = record { none_held = refl; stage = refl }
 
   -- whatever the stage awaits
   pub answer_settles : stage_fits (areas_of p) (window_of p st) st.stage ≡ true → (q : List ℕ) → Settles p (answer_of p image st st.stage q)

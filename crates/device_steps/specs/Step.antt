@@ -1,7 +1,6 @@
 -- One received byte.
-use Rattle.std.specs.Prelude.{List, [], ◌∷◌, ◌++◌, ℕ, length, take}
+use Rattle.std.specs.Prelude.{List, [], ◌∷◌, ◌++◌, ℕ, length, take, Err}
 use Rattle.verdict.specs.declared.Reason.TheVariants.{LengthRefused}
-use Rattle.verdict.specs.declared.Verdict.TheVariants.{Refused}
 use Rattle.profile.specs.declared.Profile.{Profile}
 use Rattle.profile.specs.Areas.{areas_of}
 use Rattle.packet.specs.declared.Progress.{Progress}
@@ -61,7 +60,7 @@ early_of (Reading r) = (com_number Read, Command)
 -- a length outside its range
 abbrev pub refused_early : State → Answer
 refused_early st =
-    record { act = Nothing; state = moved (early_of st.stage).1 st; reply = status_reply (early_of st.stage).0 (Refused LengthRefused) }
+    record { act = Nothing; state = moved (early_of st.stage).1 st; reply = status_reply (early_of st.stage).0 (Err LengthRefused) }
 
 -- what answers a complete packet; setting awaits none, and its clause never decides: proofs/Defaults, `setting_completes_none`
 abbrev pub answer_of : Profile → List ℕ → State → Stage → List ℕ → Answer

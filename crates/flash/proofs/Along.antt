@@ -4,12 +4,13 @@ use mathlib.Core.Logic.{⊎_elim}
 use mathlib.Core.Path.{◌≡◌, refl, sym, ap, ◌∙◌}
 use Prim.Native.Nat.{ℕ, zero, suc, ◌+◌, ◌-◌, ◌≤◌, ◌<◌}
 use native.Mathlib.Omega.{arith}
-use lib.ListN.{length, take, drop, get_or, length-append, length-take, length-drop, get_or-append}
+use lib.ListN.{length, take, drop, get_or, length-append, length-take, length-drop, get_or-append, take-append-drop}
 use lib.Seq.{take-add, drop-drop, length_front, length-take-le, get_or-take, get_or-drop, ext_get_or}
+use Rattle.numbers.proofs.Copied.{part_count}
 use Rattle.profile.specs.declared.Area.{Area}
 use Rattle.profile.specs.Areas.{size_of}
 use Rattle.flash.specs.Effects.{Effect, along, changed}
-use Rattle.flash.specs.Meets.{Meets}
+use Rattle.flash.specs.Meets.{Meets, Only}
 use Rattle.flash.proofs.Lists.{below, get_d_behind, take_front, drop_front, replaced, replaced_length, replaced_before, replaced_in, replaced_behind}
 
 -- an effect keeps the length, and gives each byte by its address
@@ -88,11 +89,6 @@ module _ (f : Effect) (a : Area) (base : ℕ) (image : List ℕ) where
       ∙ get_or-drop (base + size_of a) image (k - length passed) d
       ∙ ap (λ (m : ℕ). get_or image m d) e
 
--- an effect that leaves each address outside the range alone
-pub record Only (f : Effect) (s t : ℕ) : Type 0 where
-  pub under : (x b : ℕ) → x < s → f x b ≡ b
-  pub over : (x b : ℕ) → t ≤ x → f x b ≡ b
-
 -- so it is enough to replace the part, where the range and the area meet
 module _ (f : Effect) (a : Area) (base s t lo hi : ℕ) (image new : List ℕ) (only : Only f s t) (m : Meets a base (length image) s t lo hi) (n : length new ≡ hi - lo)
     (is : (k : ℕ) → lo ≤ k → k < hi → get_or new (k - lo) 255 ≡ f (a.sad + (k - base)) (get_or image k 255)) where
@@ -126,3 +122,40 @@ module _ (f : Effect) (a : Area) (base s t lo hi : ℕ) (image new : List ℕ) (
       let l : length (replaced lo hi new image) ≡ length image = replaced_length lo hi new image m.order m.fits n in
       ext_get_or 255 (replaced lo hi new image) (in_area f a base image) (l ∙ sym (in_area_length f a base image))
       (λ k w. same_places k (omega arith))
+
+-- the part as the effect leaves its bytes, the first of which has an address
+module _ (f : Effect) (a : Area) (base s t lo hi : ℕ) (image : List ℕ) (only : Only f s t) (m : Meets a base (length image) s t lo hi) where
+  abbrev part : List ℕ
+  part = take (hi - lo) (drop lo image)
+
+  pub part_along : (new : List ℕ) → lo < hi → new ≡ along f (a.sad + (lo - base)) part → replaced lo hi new image ≡ in_area f a base image
+  part_along new w e =
+      let b = m.area lo (omega arith) w in
+      let c = part_count lo hi image m.fits in
+      part_changed f a base s t lo hi image new only m (ap length e ∙ length_along f (a.sad + (lo - base)) part ∙ c)
+      (λ k h i.
+      let j : k - lo < length part = omega arith in
+      let x : a.sad + (lo - base) + (k - lo) ≡ a.sad + (k - base) = omega arith in
+      let p : lo + (k - lo) ≡ k = omega arith in
+      ap (λ (l : List ℕ). get_or l (k - lo) 255) e
+      ∙ get_d_along f (a.sad + (lo - base)) part (k - lo) 255 j
+      ∙ ap (λ (y : ℕ). f y (get_or part (k - lo) 255)) x
+      ∙ ap (f (a.sad + (k - base))) (get_or-take (hi - lo) (drop lo image) (k - lo) 255 (omega arith) ∙ get_or-drop lo image (k - lo) 255 ∙ ap (λ (q : ℕ). get_or image q 255) p))
+
+  -- no part, no change
+  pub part_none : hi ≤ lo → image ≡ in_area f a base image
+  unfolding replaced
+  part_none h =
+      let e : hi - lo ≡ 0 = omega arith in
+      let r : replaced lo hi [] image ≡ image = rw e (take-append-drop lo image) in
+      sym r ∙ part_changed f a base s t lo hi image [] only m (sym e) (λ k i j. absurd (omega arith))
+
+  -- where the part lies
+  pub part_from : lo < hi → s ≤ a.sad + (lo - base)
+  part_from w = (m.range lo (omega arith) w).0
+
+  pub part_to : lo < hi → a.sad + (lo - base) + length part ≤ t
+  part_to w =
+      let b = m.area lo (omega arith) w in
+      let r = m.range (hi - 1) (omega arith) (omega arith) in
+      omega (arith, part_count lo hi image m.fits)

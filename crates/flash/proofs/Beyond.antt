@@ -9,7 +9,7 @@ use Rattle.profile.specs.declared.Area.{Area}
 use Rattle.profile.specs.declared.Profile.{Profile}
 use Rattle.profile.specs.Areas.{entries, areas_of, no_area, size_of}
 use Rattle.flash.specs.Effects.{Effect, along, changed, storing, stored}
-use Rattle.flash.proofs.Along.{Only}
+use Rattle.flash.specs.Meets.{Only}
 use Rattle.flash.proofs.Writes.{storing_only}
 
 -- an effect on addresses from s on, and bytes whose last address e is below

@@ -11,14 +11,14 @@ use lib.Seq.{length-take-le, get_or-take, get_or-drop}
 use Rattle.profile.proofs.Places.{found_inside, area_below_total}
 use Rattle.profile.proofs.Table.{inside_bounds}
 use Rattle.profile.specs.declared.Area.{Area}
-use Rattle.profile.specs.declared.Place.TheVariants.{In, Nowhere}
-use Rattle.profile.specs.declared.Place.{Place}
 use Rattle.profile.specs.declared.Spot.{Spot}
 use Rattle.profile.specs.Areas.{size_of, total_of, inside}
 use Rattle.profile.specs.Places.{place_from, place_of, offset_in}
 use Rattle.flash.specs.Effects.{Effect, along, changed, erasing, storing, erased, stored, blanked, fetched_at, fetched}
-use Rattle.flash.proofs.Along.{length_along, get_d_along, Only}
+use Rattle.flash.specs.Meets.{Only}
+use Rattle.flash.proofs.Along.{length_along, get_d_along}
 use Rattle.flash.proofs.Lists.{get_d_behind}
+use Rattle.std.specs.Prelude.{Option, Some, None}
 use Rattle.flash.proofs.Writes.{erasing_in, erasing_only, storing_in, storing_only}
 
 -- an effect keeps the image's length
@@ -34,35 +34,35 @@ changed_length f (a ∷ more) image =
 abbrev Here : ℕ → Area → ℕ → Spot → Type 0
 Here base a x spot = (inside a x ≡ true) × (record { area = a; base = base } ≡ spot)
 
-found_by_lem : (base : ℕ) (a : Area) (more : List Area) (x : ℕ) (spot : Spot) (t : Bool) → inside a x ≡ t → place_from base (a ∷ more) x ≡ In spot
-    → Here base a x spot ⊎ (place_from (base + size_of a) more x ≡ In spot)
+found_by_lem : (base : ℕ) (a : Area) (more : List Area) (x : ℕ) (spot : Spot) (t : Bool) → inside a x ≡ t → place_from base (a ∷ more) x ≡ Some spot
+    → Here base a x spot ⊎ (place_from (base + size_of a) more x ≡ Some spot)
 unfolding place_from
 found_by_lem base a more x spot true t e =
-    let f : In (record { area = a; base = base }) ≡ In spot = rw t at e in
+    let f : Some (record { area = a; base = base }) ≡ Some spot = rw t at e in
     inl (t, cc)
 found_by_lem base a more x spot false t e = inr (rw t at e)
 
-found_in : (base : ℕ) (a : Area) (more : List Area) (x : ℕ) (spot : Spot) → place_from base (a ∷ more) x ≡ In spot
-    → Here base a x spot ⊎ (place_from (base + size_of a) more x ≡ In spot)
+found_in : (base : ℕ) (a : Area) (more : List Area) (x : ℕ) (spot : Spot) → place_from base (a ∷ more) x ≡ Some spot
+    → Here base a x spot ⊎ (place_from (base + size_of a) more x ≡ Some spot)
 found_in base a more x spot e = found_by_lem base a more x spot (inside a x) refl e
 
-found_nowhere : (base x : ℕ) (spot : Spot) → place_from base [] x ≡ In spot → ⊥
+found_nowhere : (base x : ℕ) (spot : Spot) → place_from base [] x ≡ Some spot → ⊥
 unfolding place_from
 found_nowhere base x spot e = let z : ◌≡◌ {A = ℕ} 0 1 = cc in omega arith
 
 -- it stands at or behind the place where the search began
-found_above : (base : ℕ) (areas : List Area) (x : ℕ) (spot : Spot) → place_from base areas x ≡ In spot → base ≤ spot.base
+found_above : (base : ℕ) (areas : List Area) (x : ℕ) (spot : Spot) → place_from base areas x ≡ Some spot → base ≤ spot.base
 found_above base [] x spot e = absurd (found_nowhere base x spot e)
 found_above base (a ∷ more) x spot e =
     ⊎_elim
     (λ (h : Here base a x spot). let b : base ≡ spot.base = ap (λ (q : Spot). q.base) h.1 in omega arith)
-    (λ (h : place_from (base + size_of a) more x ≡ In spot). let b = found_above (base + size_of a) more x spot h in omega arith)
+    (λ (h : place_from (base + size_of a) more x ≡ Some spot). let b = found_above (base + size_of a) more x spot h in omega arith)
     (found_in base a more x spot e)
 
 -- the byte at place k behind base is the one at address x, where x has its place there
 abbrev Changed_at : Effect → ℕ → List Area → ℕ → ℕ → Type 0
 Changed_at f base areas x d =
-    (image : List ℕ) (k : ℕ) (spot : Spot) → place_from base areas x ≡ In spot → base + k ≡ offset_in spot x → k < length image
+    (image : List ℕ) (k : ℕ) (spot : Spot) → place_from base areas x ≡ Some spot → base + k ≡ offset_in spot x → k < length image
     → get_or (changed f areas image) k d ≡ f x (get_or image k d)
 
 changed_here : (f : Effect) (base : ℕ) (a : Area) (more : List Area) (x d : ℕ) (image : List ℕ) (k : ℕ) (spot : Spot) → Here base a x spot → base + k ≡ offset_in spot x → k < length image
@@ -80,7 +80,7 @@ changed_here f base a more x d image k spot h e w =
     ∙ ap (f x) (get_or-take (size_of a) image k d i)
 
 changed_later : (f : Effect) (base : ℕ) (a : Area) (more : List Area) (x d : ℕ) → Changed_at f (base + size_of a) more x d
-    → (image : List ℕ) (k : ℕ) (spot : Spot) → place_from (base + size_of a) more x ≡ In spot → base + k ≡ offset_in spot x → k < length image
+    → (image : List ℕ) (k : ℕ) (spot : Spot) → place_from (base + size_of a) more x ≡ Some spot → base + k ≡ offset_in spot x → k < length image
     → get_or (changed f (a ∷ more) image) k d ≡ f x (get_or image k d)
 unfolding changed
 changed_later f base a more x d later image k spot h e w =
@@ -100,11 +100,11 @@ changed_from f base [] x d image k spot e o w = absurd (found_nowhere base x spo
 changed_from f base (a ∷ more) x d image k spot e o w =
     ⊎_elim
     (λ (h : Here base a x spot). changed_here f base a more x d image k spot h o w)
-    (λ (h : place_from (base + size_of a) more x ≡ In spot). changed_later f base a more x d (changed_from f (base + size_of a) more x d) image k spot h o w)
+    (λ (h : place_from (base + size_of a) more x ≡ Some spot). changed_later f base a more x d (changed_from f (base + size_of a) more x d) image k spot h o w)
     (found_in base a more x spot e)
 
 -- an address whose place is found, and whose byte the image has
-module _ (areas : List Area) (image : List ℕ) (x : ℕ) (spot : Spot) (p : place_of areas x ≡ In spot) (w : offset_in spot x < length image) (d : ℕ) where
+module _ (areas : List Area) (image : List ℕ) (x : ℕ) (spot : Spot) (p : place_of areas x ≡ Some spot) (w : offset_in spot x < length image) (d : ℕ) where
   -- the effect, whatever it is, is on the byte at that address
   pub changed_at : (f : Effect) → get_or (changed f areas image) (offset_in spot x) d ≡ f x (get_or image (offset_in spot x) d)
   changed_at f = changed_from f 0 areas x d image (offset_in spot x) spot p (omega arith) w
@@ -156,10 +156,10 @@ unfolding blanked
 blanked_alike image image' e = ap (λ (n : ℕ). replicate n 0xFF) e
 
 -- a fetch from an address whose place is found
-module _ (areas : List Area) (x n : ℕ) (image : List ℕ) (spot : Spot) (p : place_of areas x ≡ In spot) where
+module _ (areas : List Area) (x n : ℕ) (image : List ℕ) (spot : Spot) (p : place_of areas x ≡ Some spot) where
   fetched_is : fetched areas x n image ≡ take n (drop (offset_in spot x) image)
   unfolding fetched fetched_at
-  fetched_is = ap (λ (q : Place). fetched_at q x n image) p
+  fetched_is = ap (λ (q : Option Spot). fetched_at q x n image) p
 
   -- each byte is the image's, at the place of its address
   pub fetched_at_lem : (k d : ℕ) → k < length (fetched areas x n image) → get_or (fetched areas x n image) k d ≡ get_or image (offset_in spot x + k) d
@@ -188,15 +188,15 @@ module _ (areas : List Area) (x n : ℕ) (image : List ℕ) (spot : Spot) (p : p
       let e : n ≡ min n (spot.area.ead + 1 - x) = omega arith in
       fetched_is ∙ ap (λ (m : ℕ). take m (drop (offset_in spot x) image)) e
 
-pub fetched_nowhere : (areas : List Area) (x n : ℕ) (image : List ℕ) → place_of areas x ≡ Nowhere → fetched areas x n image ≡ []
+pub fetched_nowhere : (areas : List Area) (x n : ℕ) (image : List ℕ) → place_of areas x ≡ None → fetched areas x n image ≡ []
 unfolding fetched fetched_at
-fetched_nowhere areas x n image p = ap (λ (q : Place). fetched_at q x n image) p
+fetched_nowhere areas x n image p = ap (λ (q : Option Spot). fetched_at q x n image) p
 
 -- wherever it starts, a fetch gives no more bytes than were asked for
 pub fetched_most : (areas : List Area) (x n : ℕ) (image : List ℕ) → length (fetched areas x n image) ≤ n
 unfolding fetched fetched_at
 fetched_most areas x n image = by_place (place_of areas x)
   where
-    by_place : (place : Place) → length (fetched_at place x n image) ≤ n
-    by_place Nowhere = omega arith
-    by_place (In spot) = rw length-take (omega arith)
+    by_place : (place : Option Spot) → length (fetched_at place x n image) ≤ n
+    by_place None = omega arith
+    by_place (Some spot) = rw length-take (omega arith)

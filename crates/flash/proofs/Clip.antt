@@ -11,11 +11,10 @@ use denote.Ref.{Bor}
 use Rattle.numbers.specs.Part.{PartAt}
 use Rattle.numbers.proofs.Part.{part_there}
 use Rattle.profile.specs.declared.Area.{Area}
-use Rattle.profile.specs.declared.Place.TheVariants.{In, Nowhere}
-use Rattle.profile.specs.declared.Place.{Place}
 use Rattle.profile.specs.declared.Spot.{Spot}
 use Rattle.profile.specs.Places.{place_of, offset_in}
 use Rattle.flash.specs.Effects.{fetched_at, fetched, fetch_start_at, fetch_start}
+use Rattle.std.specs.Prelude.{Option, Some, None}
 use Rattle.flash.proofs.Lists.{below}
 
 -- no more can be taken than there are
@@ -47,21 +46,21 @@ clipped image at m from e =
 
 -- the bytes from an address of a spot's area on
 pub fetch_part : (spot : Spot) (x n : ℕ) (image : List ℕ) (from c : ℕ) → from ≡ min (offset_in spot x) (length image) → c ≡ min n (length image - from)
-    → take (from + c - from) (drop from image) ≡ fetched_at (In spot) x n image
+    → take (from + c - from) (drop from image) ≡ fetched_at (Some spot) x n image
 unfolding fetched_at
 fetch_part spot x n image from c ef ec = rw ec (clipped image (offset_in spot x) n from ef)
 
 -- where they start
-pub fetch_from : (spot : Spot) (x : ℕ) (image : List ℕ) (from : ℕ) → from ≡ min (offset_in spot x) (length image) → fetch_start_at (In spot) x image ≡ from
+pub fetch_from : (spot : Spot) (x : ℕ) (image : List ℕ) (from : ℕ) → from ≡ min (offset_in spot x) (length image) → fetch_start_at (Some spot) x image ≡ from
 unfolding fetch_start_at
 fetch_from spot x image from e = sym e
 
 -- the part from an address on, where its place is known
-pub fetched_as : {s r : Bor (List ℕ)} (areas : List Area) (x n : ℕ) (found p : Place) → found ≡ place_of areas x → found ≡ p
+pub fetched_as : {s r : Bor (List ℕ)} (areas : List Area) (x n : ℕ) (found p : Option Spot) → found ≡ place_of areas x → found ≡ p
     → PartAt s (fetch_start_at p x s.now) (fetched_at p x n s.now) r → PartAt s (fetch_start areas x s.now) (fetched areas x n s.now) r
 unfolding fetched fetch_start
 fetched_as {s} {r} areas x n found p e f part =
-    subst (λ (q : Place). PartAt s (fetch_start_at q x s.now) (fetched_at q x n s.now) r) (sym f ∙ e) part
+    subst (λ (q : Option Spot). PartAt s (fetch_start_at q x s.now) (fetched_at q x n s.now) r) (sym f ∙ e) part
 
 -- the bytes that are fetched are the image's own from the place on where they start
 pub fetched_there : (areas : List Area) (x n : ℕ) (image : List ℕ)
@@ -69,9 +68,9 @@ pub fetched_there : (areas : List Area) (x n : ℕ) (image : List ℕ)
 unfolding fetched fetched_at fetch_start fetch_start_at
 fetched_there areas x n image = by_place (place_of areas x)
   where
-    by_place : (p : Place) → fetched_at p x n image ≡ take (length (fetched_at p x n image)) (drop (fetch_start_at p x image) image)
-    by_place Nowhere = refl
-    by_place (In spot) =
+    by_place : (p : Option Spot) → fetched_at p x n image ≡ take (length (fetched_at p x n image)) (drop (fetch_start_at p x image) image)
+    by_place None = refl
+    by_place (Some spot) =
         let at = offset_in spot x in
         let from = min at (length image) in
         part_there n from image (take n (drop at image)) (ap (take n) (drop_most image at from refl))

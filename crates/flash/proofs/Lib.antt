@@ -5,6 +5,5 @@ pub mod Clip
 pub mod Lists
 pub mod Meets
 pub mod Performed
-pub mod Pour
 pub mod Walk
 pub mod Writes

@@ -1,9 +1,8 @@
 -- The effects on the flash, by address: device and replay share them, and nothing else changes a byte.
-use Rattle.std.specs.Prelude.{Bool, ◌&&◌, cond, List, [], ◌∷◌, ◌++◌, ℕ, ◌+◌, ◌-◌, min, length, take, drop, get_or, replicate, leb, ltb}
+use Rattle.std.specs.Prelude.{Bool, ◌&&◌, cond, List, [], ◌∷◌, ◌++◌, ℕ, ◌+◌, ◌-◌, min, length, take, drop, get_or, replicate, leb, ltb, Option, Some, None}
 use Rattle.profile.specs.declared.Area.{Area}
-use Rattle.profile.specs.declared.Place.{Place}
-use Rattle.profile.specs.declared.Place.TheVariants.{In, Nowhere}
 use Rattle.profile.specs.Areas.{size_of}
+use Rattle.profile.specs.declared.Spot.{Spot}
 use Rattle.profile.specs.Places.{place_of, offset_in}
 
 -- an effect: what becomes of the byte b at address x
@@ -45,17 +44,17 @@ blanked image = replicate (length image) 0xFF
 
 -- up to n bytes from address x on, as far as the image goes; on an accepted call always n: device_steps, proofs/Defaults, `read_whole`, `first_whole`
 -- and `target_whole`
-unfoldable pub fetched_at : Place → ℕ → ℕ → List ℕ → List ℕ
-fetched_at Nowhere x n image = []
-fetched_at (In spot) x n image = take n (drop (offset_in spot x) image)
+unfoldable pub fetched_at : Option Spot → ℕ → ℕ → List ℕ → List ℕ
+fetched_at None x n image = []
+fetched_at (Some spot) x n image = take n (drop (offset_in spot x) image)
 
 unfoldable pub fetched : List Area → ℕ → ℕ → List ℕ → List ℕ
 fetched areas x n image = fetched_at (place_of areas x) x n image
 
 -- where in the image those bytes start: never beyond its end, and 0 where no area has the address
-unfoldable pub fetch_start_at : Place → ℕ → List ℕ → ℕ
-fetch_start_at Nowhere x image = 0
-fetch_start_at (In spot) x image = min (offset_in spot x) (length image)
+unfoldable pub fetch_start_at : Option Spot → ℕ → List ℕ → ℕ
+fetch_start_at None x image = 0
+fetch_start_at (Some spot) x image = min (offset_in spot x) (length image)
 
 unfoldable pub fetch_start : List Area → ℕ → List ℕ → ℕ
 fetch_start areas x image = fetch_start_at (place_of areas x) x image

@@ -1,7 +1,9 @@
 -- The places at which a range of addresses and an area meet: what is asked of the part of the image that an effect changes.
-use Rattle.std.specs.Prelude.{ℕ, ◌+◌, ◌-◌, ◌≤◌, ◌<◌, min}
+use Rattle.std.specs.Prelude.{List, ◌≡◌, ℕ, ◌+◌, ◌-◌, ◌≤◌, ◌<◌, min, length}
+use Rattle.std.specs.Borrow.{MutBor}
 use Rattle.profile.specs.declared.Area.{Area}
 use Rattle.profile.specs.Areas.{size_of}
+use Rattle.flash.specs.Effects.{Effect, along}
 
 -- how many of the area's bytes stand below an address
 unfoldable pub bytes_below : Area → ℕ → ℕ
@@ -17,3 +19,13 @@ pub record Meets (a : Area) (base n s t lo hi : ℕ) : Type 0 where
   -- the addresses of the area's other places are not
   pub under : (k : ℕ) → base ≤ k → k < lo → a.sad + (k - base) < s
   pub over : (k : ℕ) → hi ≤ k → k < n → base ≤ k → k < base + size_of a → t ≤ a.sad + (k - base)
+
+-- an effect that leaves each address outside the range alone
+pub record Only (f : Effect) (s t : ℕ) : Type 0 where
+  pub under : (x b : ℕ) → x < s → f x b ≡ b
+  pub over : (x b : ℕ) → t ≤ x → f x b ≡ b
+
+-- what a call leaves of a part of the image whose first byte has an address: where the part lies in the range, what the effect makes of it
+abbrev pub Does : (MutBor (List ℕ) → ℕ → MutBor (List ℕ) → Type 0) → Effect → ℕ → ℕ → Type 0
+Does Leaves f s t = (part : MutBor (List ℕ)) (at : ℕ) (after : MutBor (List ℕ)) → s ≤ at → at + length part.now ≤ t → Leaves part at after
+    → after.now ≡ along f at part.now

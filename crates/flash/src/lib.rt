@@ -1,16 +1,15 @@
 // Acts on the image that a caller lends: each byte goes where its address lies, and no other byte changes.
 #![tactic(auto)]
 
-ghost use Rattle.std.specs.Prelude.{◌≡◌, ◌+◌, ◌-◌, ◌≤◌, min, length, replicate};
+ghost use Rattle.std.specs.Prelude.{ℕ, ◌≡◌, ◌+◌, ◌-◌, ◌≤◌, min, length, replicate};
 ghost use Rattle.numbers.specs.Part.{PartAt};
 ghost use Rattle.profile.specs.Areas.{areas_of};
-ghost use Rattle.profile.specs.declared.Place.TheVariants.{In};
-ghost use Rattle.flash.specs.Effects.{erased, stored, blanked, fetched, fetched_at, fetch_start, fetch_start_at};
+ghost use Rattle.flash.specs.Effects.{Effect, changed, erased, stored, blanked, fetched, fetched_at, fetch_start, fetch_start_at};
 ghost use Rattle.flash.specs.Acts.{performed};
-ghost use Rattle.flash.specs.Meets.{bytes_below, Meets};
+ghost use Rattle.flash.specs.Meets.{bytes_below, Meets, Only, Does};
 
-use numbers::lower;
-use profile::{Area, Place, Profile, Spot};
+use profile::{Area, Profile, Spot};
+use std::ops::Range;
 
 // What an answer does to the flash.
 #[derive(Clone, Copy)]
@@ -24,110 +23,91 @@ pub enum Act {
     Store(usize, usize),
 }
 
-// A part of the image, by places in it.
-#[derive(Clone, Copy)]
-struct Part {
-    from: usize,
-    // not included
-    to: usize,
-}
-
-// Every byte FFh.
-fn fill(part: &mut [u8])
-    ensures { part.new ≡ replicate (length part.old) 0xFF }
-{
-    let mut i = 0;
-    while i < part.len() {
-        part[i] = 0xFF;
-        i += 1;
-    }
-}
-
 // Total erase.
+#[tactic(auto, unfolding(crate::specs::Effects::blanked))]
 pub fn erase_all(image: &mut [u8])
     ensures { image.new ≡ blanked image.old }
 {
-    fill(image);
-}
-
-// How far `a` lies above `b`; 0 where it does not.
-fn above(a: usize, b: usize) -> usize
-    ensures { result ≡ a - b }
-{
-    if b < a { a - b } else { 0 }
+    image.fill(0xFF);
 }
 
 // Where the bytes of the area below an address end, in an image of `size` bytes; `base` is the place of the area's first byte.
+#[tactic(auto, unfolding(crate::specs::Meets::bytes_below))]
 fn border(area: Area, base: usize, size: usize, address: usize) -> usize
     requires { base ≤ 34359738368 }
     ensures { result ≡ min (base + bytes_below area address) size }
 {
-    let below = lower(address, area.ead as usize + 1);
-    lower(base + above(below, area.sad as usize), size)
+    let below = address.min(area.ead as usize + 1);
+    (base + below.saturating_sub(area.sad as usize)).min(size)
 }
 
 // The part that holds the addresses from `first` up to, not including, `behind`, of those that the area has.
-fn overlap(area: Area, base: usize, size: usize, first: usize, behind: usize) -> Part
+fn overlap(area: Area, base: usize, size: usize, first: usize, behind: usize) -> Range<usize>
     requires { base ≤ 34359738368 }
-    ensures { Meets area base size first behind result.from result.to }
+    ensures { Meets area base size first behind result.start result.end }
 {
     let to = border(area, base, size, behind);
-    let from = lower(border(area, base, size, first), to);
-    Part { from, to }
+    let from = border(area, base, size, first).min(to);
+    from..to
+}
+
+// Hands out the parts of the image that hold the addresses from `first` up to, not including, `behind`, each with the address of its first byte.
+fn each_part<F: Fn(&mut [u8], usize)>(
+    image: &mut [u8],
+    profile: &Profile,
+    first: usize,
+    behind: usize,
+    write: F,
+)
+    requires { (part : _) (at : ℕ) → first ≤ at → at + length part.now ≤ behind → F.pre write part at }
+    ensures { (f : Effect) → Only f first behind → Does (λ part at after. F.post write part at tt after) f first behind → image.new ≡ changed f (areas_of profile.now) image.old }
+{
+    let mut base = 0;
+    for area in profile::areas_in_use(profile) {
+        let part = overlap(*area, base, image.len(), first, behind);
+        if part.start < part.end {
+            let at = area.sad as usize + (part.start - base);
+            write(&mut image[part], at);
+        }
+        base += profile::size(*area);
+    }
 }
 
 // The addresses SAD to EAD, both inclusive, become FFh.
 pub fn erase(image: &mut [u8], profile: Profile, sad: u32, ead: u32)
     ensures { image.new ≡ erased (areas_of profile) sad ead image.old }
 {
-    let used = profile::used(profile.noa);
-    let first = sad as usize;
     let behind = ead as usize + 1;
-    let mut base: usize = 0;
-    let mut i = 0;
-    while i < used {
-        let area = profile.areas[i];
-        let part = overlap(area, base, image.len(), first, behind);
-        let from = part.from;
-        let to = part.to;
-        fill(&mut image[from..to]);
-        base += profile::size(area);
-        i += 1;
-    }
+    each_part(
+        image,
+        &profile,
+        sad as usize,
+        behind,
+        |part, _| part.fill(0xFF),
+    );
 }
 
 // The bytes go to the addresses from `address` on.
 pub fn store(image: &mut [u8], profile: Profile, address: u32, bytes: &[u8])
     ensures { image.new ≡ stored (areas_of profile) address bytes.now image.old }
 {
-    let n = profile::used(profile.noa);
     let start = address as usize;
     let end = start + bytes.len();
-    let mut base = 0;
-    let mut i = 0;
-    while i < n {
-        let area = profile.areas[i];
-        let part = overlap(area, base, image.len(), start, end);
-        let from = part.from;
-        let to = part.to;
-        // so many bytes belong to addresses below the area
-        let skipped = lower(above(area.sad as usize, start), bytes.len());
-        let last = skipped + (to - from);
-        numbers::copy(&bytes[skipped..last], &mut image[from..to]);
-        base += profile::size(area);
-        i += 1;
-    }
+    each_part(image, &profile, start, end, |part, at| {
+        let from = at - start;
+        part.copy_from_slice(&bytes[from..from + part.len()]);
+    });
 }
 
 // Up to `count` bytes from an address of a spot's area on, as far as the image goes.
 fn fetch_at(image: &[u8], spot: Spot, address: u32, count: usize) -> &[u8]
     requires { (spot.area.sad ≤ address) × (address ≤ spot.area.ead) × (spot.base ≤ 34359738368) }
-    ensures { PartAt image.entry (fetch_start_at (In spot) address image.now) (fetched_at (In spot) address count image.now) result }
+    ensures { PartAt image.entry (fetch_start_at (Some spot) address image.now) (fetched_at (Some spot) address count image.now) result }
 {
     let area = spot.area;
     let offset = (address - area.sad) as usize;
-    let from = lower(spot.base + offset, image.len());
-    let to = from + lower(count, image.len() - from);
+    let from = (spot.base + offset).min(image.len());
+    let to = from + count.min(image.len() - from);
     &image[from..to]
 }
 
@@ -140,9 +120,8 @@ pub fn perform(image: &mut [u8], profile: Profile, act: Act, bytes: &[u8])
         Act::EraseRange(sad, ead) => erase(image, profile, sad, ead),
         Act::EraseAll => erase_all(image),
         Act::Store(address, count) => {
-            if address <= 0xFFFF_FFFF {
-                let n = lower(count, bytes.len());
-                store(image, profile, address as u32, &bytes[..n]);
+            if let Ok(address) = u32::try_from(address) {
+                store(image, profile, address, &bytes[..count.min(bytes.len())]);
             }
         }
     }
@@ -152,9 +131,8 @@ pub fn perform(image: &mut [u8], profile: Profile, act: Act, bytes: &[u8])
 pub fn fetch(image: &[u8], profile: Profile, address: u32, count: usize) -> &[u8]
     ensures { PartAt image.entry (fetch_start (areas_of profile) address image.now) (fetched (areas_of profile) address count image.now) result }
 {
-    let place = profile::locate(profile, address);
-    match place {
-        Place::Nowhere => &image[0..0],
-        Place::In(spot) => fetch_at(image, spot, address, count),
+    match profile::locate(profile, address) {
+        None => &image[..0],
+        Some(spot) => fetch_at(image, spot, address, count),
     }
 }

@@ -8,8 +8,7 @@ use native.Mathlib.Omega.{arith}
 use lib.Dec.{eqb}
 use lib.ListN.{length, get_or}
 use borrow.Author.Tests.{eq-eqb, eqb-true, eqb-false}
-use Rattle.flash_blank.specs.declared.Search.TheVariants.{Clean, Dirty}
-use Rattle.flash_blank.specs.declared.Search.{Search}
+use Rattle.std.specs.Prelude.{Option, Some, None}
 use Rattle.flash_blank.specs.Blank.{searched_from, searched}
 
 -- all bytes are FFh
@@ -36,13 +35,13 @@ record Met (unit i n : ℕ) (l : List ℕ) : Type 0 where
   before : (k : ℕ) → k < place → get_or l k 0 ≡ 0xFF
 
 -- what an answer says of the bytes
-abbrev Tells : ℕ → ℕ → List ℕ → Search → Type 0
-Tells unit i l Clean = AllBlank l
-Tells unit i l (Dirty n) = Met unit i n l
+abbrev Tells : ℕ → ℕ → List ℕ → Option ℕ → Type 0
+Tells unit i l None = AllBlank l
+Tells unit i l (Some n) = Met unit i n l
 
-tells_more : (unit i b : ℕ) (bs : List ℕ) (r : Search) → b ≡ 0xFF → Tells unit (i + 1) bs r → Tells unit i (b ∷ bs) r
-tells_more unit i b bs Clean e t = blank_cons b bs e t
-tells_more unit i b bs (Dirty n) e t =
+tells_more : (unit i b : ℕ) (bs : List ℕ) (r : Option ℕ) → b ≡ 0xFF → Tells unit (i + 1) bs r → Tells unit i (b ∷ bs) r
+tells_more unit i b bs None e t = blank_cons b bs e t
+tells_more unit i b bs (Some n) e t =
     let s : i + suc t.place ≡ i + 1 + t.place = omega arith in
     record {
       place = suc t.place;
@@ -71,7 +70,7 @@ unfolding searched_from
 tells unit i [] = λ k h. absurd (omega arith)
 tells unit i (b ∷ bs) = tells_by unit i b bs (eqb b 0xFF) refl (tells unit (i + 1) bs)
 
-clean_from : (unit i : ℕ) (l : List ℕ) → AllBlank l → searched_from unit i l ≡ Clean
+clean_from : (unit i : ℕ) (l : List ℕ) → AllBlank l → searched_from unit i l ≡ None
 unfolding searched_from
 clean_from unit i [] all = refl
 clean_from unit i (b ∷ bs) all = rw (eq-eqb b 0xFF (all 0 (omega arith))) (clean_from unit (i + 1) bs (blank_tail b bs all))
@@ -87,15 +86,15 @@ pub record FirstDirty (unit n : ℕ) (l : List ℕ) : Type 0 where
 
 -- the search answers clean exactly where all bytes are FFh, and else the first unit that is not blank
 module _ (unit : ℕ) (target : List ℕ) where
-  pub clean_blank : searched unit target ≡ Clean → AllBlank target
+  pub clean_blank : searched unit target ≡ None → AllBlank target
   unfolding searched
   clean_blank e = subst (Tells (max unit 1) 0 target) e (tells (max unit 1) 0 target)
 
-  pub blank_clean : AllBlank target → searched unit target ≡ Clean
+  pub blank_clean : AllBlank target → searched unit target ≡ None
   unfolding searched
   blank_clean all = clean_from (max unit 1) 0 target all
 
-  pub dirty_first : (n : ℕ) → searched unit target ≡ Dirty n → FirstDirty (max unit 1) n target
+  pub dirty_first : (n : ℕ) → searched unit target ≡ Some n → FirstDirty (max unit 1) n target
   unfolding searched
   dirty_first n e =
       let u = max unit 1 in

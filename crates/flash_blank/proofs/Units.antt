@@ -1,104 +1,25 @@
--- The search for the first unit that is not blank, byte by byte and unit by unit, behind a front that is passed piece by piece, and the test whether all bytes are blank. Assumes nothing.
-use mathlib.Core.Bool.{Bool, true, false, cond}
-use mathlib.Core.List.{List, [], ◌∷◌, ◌++◌}
-use mathlib.Core.Path.{◌≡◌, refl, sym, ap, ◌∙◌}
-use Prim.Native.Nat.{ℕ, zero, suc, ◌+◌, ◌-◌, ◌*◌, ◌/◌, ◌≤◌, ◌<◌, min, max}
-use native.Mathlib.Nat.{add-mul, one-mul, le-mul_of_pos_right, div-eq_of_lt-le, div-mul-le_self, lt-div-mul-add}
-use native.Mathlib.Numerals.{add-one}
-use native.Mathlib.Omega.{arith}
-use lib.Dec.{eqb}
-use lib.ListN.{length, take, drop, get_or, drop_of_length-le}
-use lib.Seq.{take-add, drop-cons}
-use borrow.Author.Tests.{eq-eqb, ne_eqb}
-use Rattle.flash_blank.specs.declared.Search.{Search}
-use Rattle.flash_blank.specs.declared.Search.TheVariants.{Clean, Dirty}
+-- The test whether all bytes are blank, and the search behind a front that is. Assumes nothing.
+use Rattle.std.proofs.Common.{Bool, true, false, cond, ◌&&◌, List, [], ◌∷◌, ◌++◌, ◌≡◌, refl, ap, ◌∙◌, ℕ, zero, suc, ◌+◌, ◌-◌, ◌/◌, ◌≤◌, ◌<◌, ◌*◌, ◌%◌, min, max, mul-le-mul_right, arith, sym, length-drop, length-append, length, length-take, take_all, take, drop, drop_of_length-le, drop-cons, drop-drop, get_or, get_or-take, get_or-drop, eqb, ne_eqb, fold, subst, add-one, add-mul, one-mul, div-mul-le_self}
+use Rattle.std.specs.Prelude.{Option, Some, None}
+use Rattle.std.proofs.lemmas.Grind.{div_ceil_times}
+use Rattle.std.proofs.Math.Seq.{take-add, take-append_seam, drop-append_seam}
+use native.Mathlib.Nat.{div-eq_of_lt-le, lt-div-mul-add}
 use Rattle.flash_blank.specs.Blank.{searched_from, searched, all_blank}
 
--- the search at place i
-module _ (unit : ℕ) (l : List ℕ) (i : ℕ) where
-  pub search_next : i < length l → get_or l i 0 ≡ 255 → searched_from unit i (drop i l) ≡ searched_from unit (i + 1) (drop (i + 1) l)
-  unfolding searched_from
-  search_next h e =
-      rw (drop-cons l i 0 h, e) (ap (λ (k : ℕ). searched_from unit (i + 1) (drop k l)) (sym (add-one i)))
+-- one byte after the other
+each_blank : (b : ℕ) (t more : Bool) → (t && more) ≡ cond t more false
+each_blank b true more = refl
+each_blank b false more = refl
 
-  pub search_found : i < length l → (get_or l i 0 ≡ 255 → ⊥) → searched_from unit i (drop i l) ≡ Dirty (i / unit)
-  unfolding searched_from
-  search_found h e = rw (drop-cons l i 0 h, ne_eqb (get_or l i 0) 255 e) refl
-
-  pub search_end : length l ≤ i → searched_from unit i (drop i l) ≡ Clean
-  unfolding searched_from
-  search_end h = rw (drop_of_length-le l h) refl
-
--- the first byte of a unit, where all units before it are whole
-module _ (number step at n : ℕ) (e : at ≡ min (number * step) n) where
-  pub next_unit : min (at + step) n ≡ min ((number + 1) * step) n
-  next_unit = rw (add-mul, one-mul) (omega arith)
-
-  module _ (h : at < n) where
-    pub unit_start : at ≡ number * step
-    unit_start = omega arith
-
-    pub unit_number : (k : ℕ) → at ≤ k → k < at + step → k / step ≡ number
-    unit_number k a b =
-        let s = unit_start in
-        let lo : number * step ≤ k = omega arith in
-        let hi : k < (number + 1) * step = rw (add-mul, one-mul) (omega arith) in
-        div-eq_of_lt-le step lo hi
-
-    pub number_fits : 1 ≤ step → number < n
-    number_fits s =
-        let m : number ≤ number * step = le-mul_of_pos_right number s in
-        omega (arith, unit_start)
-
--- the unit that a place belongs to
-module _ (step front : ℕ) (p : 0 < step) where
-  pub unit_before_lem : front / step * step ≤ front
-  unit_before_lem = div-mul-le_self front step
-
-  pub unit_behind : front ≤ front / step * step + step
-  unit_behind = omega (arith, lt-div-mul-add {a = front} p)
-
--- a place that no unit passed: at most the end of the unit at hand
-module _ (front at step n end : ℕ) (e : end ≡ min (at + step) n) (h : front ≤ at + step) (w : front ≤ n) where
-  pub front_within : front ≤ end
-  front_within = omega arith
-
-  pub later_within : at ≤ n → max at front ≤ end
-  later_within i = omega arith
-
--- the end of a piece of up to n bytes
-module _ (n k end stop : ℕ) (p : 0 < n) (e : stop ≡ min (k + n) end) (h : k < end) where
-  pub piece_after : k ≤ stop
-  piece_after = omega arith
-
-  pub piece_within : stop ≤ end
-  piece_within = omega arith
-
-  pub piece_less : end - stop < end - k
-  piece_less = omega arith
-
--- whether all bytes from place i on are FFh, and so were those before it
-abbrev pub blank_from : Bool → ℕ → List ℕ → Bool
-blank_from blank i l = cond blank (all_blank (drop i l)) false
-
-module _ (l : List ℕ) (i : ℕ) where
-  pub blank_next : (blank : Bool) → i < length l → get_or l i 0 ≡ 255 → blank_from blank i l ≡ blank_from blank (i + 1) l
-  unfolding all_blank
-  blank_next false h e = refl
-  blank_next true h e = rw (drop-cons l i 0 h, eq-eqb (get_or l i 0) 255 e) (ap (λ (k : ℕ). all_blank (drop k l)) (sym (add-one i)))
-
-  pub blank_other : (blank : Bool) → i < length l → (get_or l i 0 ≡ 255 → ⊥) → blank_from blank i l ≡ false
-  unfolding all_blank
-  blank_other false h e = refl
-  blank_other true h e = rw (drop-cons l i 0 h, ne_eqb (get_or l i 0) 255 e) refl
-
-  pub blank_end : (blank : Bool) → length l ≤ i → blank_from blank i l ≡ blank
-  unfolding all_blank
-  blank_end false h = refl
-  blank_end true h = rw (drop_of_length-le l h) refl
+pub blank_fold : (blank : Bool) (l : List ℕ) → fold (λ t b. t && eqb b 0xFF) blank l ≡ (blank && all_blank l)
+unfolding all_blank
+blank_fold true [] = refl
+blank_fold false [] = refl
+blank_fold true (b ∷ bs) = blank_fold (eqb b 0xFF) bs ∙ each_blank b (eqb b 0xFF) (all_blank bs)
+blank_fold false (b ∷ bs) = blank_fold false bs
 
 -- the search over a piece of n bytes, of which all are FFh: it goes on behind it
-passed_by : (unit i b : ℕ) (piece bs : List ℕ) (found : Search) (t : Bool) → eqb b 0xFF ≡ t → (all_blank piece ≡ true → searched_from unit (i + 1) bs ≡ found)
+passed_by : (unit i b : ℕ) (piece bs : List ℕ) (found : Option ℕ) (t : Bool) → eqb b 0xFF ≡ t → (all_blank piece ≡ true → searched_from unit (i + 1) bs ≡ found)
     → all_blank (b ∷ piece) ≡ true → searched_from unit i (b ∷ bs) ≡ found
 unfolding all_blank searched_from
 passed_by unit i b piece bs found true e later h = rw e (later (rw e at h))
@@ -124,19 +45,86 @@ blank_join [] ys h g = g
 blank_join (b ∷ bs) ys h g = join_by b bs ys (eqb b 0xFF) refl (λ later. blank_join bs ys later g) h
 
 -- the front that is all FFh
-module _ (l : List ℕ) where
-  pub front_start : all_blank (take 0 l) ≡ true
-  unfolding all_blank
-  front_start = refl
+pub front_start : (l : List ℕ) → all_blank (take 0 l) ≡ true
+unfolding all_blank
+front_start l = refl
 
-  pub front_next : (i j : ℕ) → i ≤ j → all_blank (take i l) ≡ true → all_blank (take (j - i) (drop i l)) ≡ true → all_blank (take j l) ≡ true
-  front_next i j w h g =
-      let s : j ≡ i + (j - i) = omega arith in
-      ap (λ (k : ℕ). all_blank (take k l)) s ∙ rw take-add (blank_join (take i l) (take (j - i) (drop i l)) h g)
+-- the bytes behind it
+pub behind : (n : ℕ) (l : List ℕ) → take (length l - n) (drop n l) ≡ drop n l
+behind n l = take_all (length l - n) (drop n l) (omega (arith, length-drop n l))
 
-  -- the search starts behind it
-  pub front_passed : (unit n : ℕ) → n ≤ length l → all_blank (take n l) ≡ true → searched unit l ≡ searched_from (max unit 1) n (drop n l)
+-- one piece of them is, too
+pub record Passed (l rest : List ℕ) (at : ℕ) : Type 0 where
+  pub whole : at + length rest ≡ length l
+  pub blank : all_blank (take at l) ≡ true
+  pub left : drop at l ≡ rest
+
+pub passed_next : (l rest piece : List ℕ) (at : ℕ) → Passed l (piece ++ rest) at → all_blank piece ≡ true → Passed l rest (at + length piece)
+passed_next l rest piece at p g =
+    let n = length piece in
+    let front : take n (drop at l) ≡ piece = rw p.left (take-append_seam piece rest) in
+    let behind : drop n (drop at l) ≡ rest = rw p.left (drop-append_seam piece rest) in
+    record {
+      whole = omega (arith, length-append piece rest, p.whole);
+      blank = rw take-add (blank_join (take at l) (take n (drop at l)) p.blank (rw front g));
+      left = sym (drop-drop n at l) ∙ behind;
+    }
+
+-- the search comes to what it comes to from place i on
+abbrev pub Left : ℕ → List ℕ → ℕ → Type 0
+Left unit l i = searched unit l ≡ searched_from (max unit 1) i (drop i l)
+
+module _ (unit i : ℕ) (l : List ℕ) where
+  pub left_behind : i ≤ length l → all_blank (take i l) ≡ true → Left unit l i
   unfolding searched
-  front_passed unit n w h =
-      let z : 0 + n ≡ n = omega arith in
-      piece_passed (max unit 1) n 0 l w h ∙ ap (λ (k : ℕ). searched_from (max unit 1) k (drop n l)) z
+  left_behind w h =
+      let z : 0 + i ≡ i = omega arith in
+      piece_passed (max unit 1) i 0 l w h ∙ ap (λ (k : ℕ). searched_from (max unit 1) k (drop i l)) z
+
+  left_next : Left unit l i → i < length l → get_or l i 0 ≡ 0xFF → Left unit l (i + 1)
+  unfolding searched_from
+  left_next p h e =
+      p ∙ rw (drop-cons l i 0 h, e) (ap (λ (k : ℕ). searched_from (max unit 1) (i + 1) (drop k l)) (sym (add-one i)))
+
+  left_found : Left unit l i → i < length l → (get_or l i 0 ≡ 0xFF → ⊥) → searched unit l ≡ Some (i / max unit 1)
+  unfolding searched_from
+  left_found p h e = p ∙ rw (drop-cons l i 0 h, ne_eqb (get_or l i 0) 0xFF e) refl
+
+  pub left_none : Left unit l i → length l ≤ i → searched unit l ≡ None
+  unfolding searched_from
+  left_none p h = p ∙ rw (drop_of_length-le l h) refl
+
+-- a byte of the part that a unit's loop goes over: the i-th of up to n from place `from` on
+module _ (unit from n i : ℕ) (l : List ℕ) (p : Left unit l (from + i)) (h : i < length (take n (drop from l))) where
+  within : from + i < length l
+  within = omega (arith, length-take n (drop from l), length-drop from l)
+
+  same : get_or (take n (drop from l)) i 0 ≡ get_or l (from + i) 0
+  same = get_or-take n (drop from l) i 0 (omega (arith, length-take n (drop from l))) ∙ get_or-drop from l i 0
+
+  pub part_next : get_or (take n (drop from l)) i 0 ≡ 0xFF → Left unit l (from + (i + 1))
+  part_next e =
+      let s : from + i + 1 ≡ from + (i + 1) = omega arith in
+      subst (Left unit l) s (left_next unit (from + i) l p within (sym same ∙ e))
+
+  pub part_found : (number : ℕ) → (get_or (take n (drop from l)) i 0 ≡ 0xFF → ⊥) → number * max unit 1 ≤ from + i → from + i < (number + 1) * max unit 1
+      → searched unit l ≡ Some number
+  part_found number e lo hi =
+      left_found unit (from + i) l p within (λ q. e (same ∙ q)) ∙ ap Some (div-eq_of_lt-le (max unit 1) lo hi)
+
+-- the unit that a place belongs to
+pub unit_of : (place step : ℕ) → 0 < step → (place / step * step ≤ place) × (place < (place / step + 1) * step)
+unit_of place step p = (div-mul-le_self place step, rw (add-mul, one-mul) (lt-div-mul-add {a = place} p))
+
+-- the units of n bytes: each one starts among them, and together they hold all
+module _ (number step n : ℕ) (p : 0 < step) where
+  pub unit_starts : number < n / step + min 1 (n % step) → number * step < n
+  unit_starts h =
+      let m : (number + 1) * step ≤ (n / step + min 1 (n % step)) * step = mul-le-mul_right step (omega arith) in
+      let e : (number + 1) * step ≡ number * step + step = rw (add-mul, one-mul) refl in
+      omega (arith, div_ceil_times n step p)
+
+  pub units_hold : n / step + min 1 (n % step) ≤ number → n ≤ number * step
+  units_hold h =
+      let m : (n / step + min 1 (n % step)) * step ≤ number * step = mul-le-mul_right step h in
+      omega (arith, div_ceil_times n step p)

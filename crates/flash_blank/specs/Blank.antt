@@ -1,15 +1,13 @@
--- The search for the first unit that holds a byte other than FFh. Units are counted from the front; a unit of 0 counts as 1, which never decides in a
--- write: device_steps, proofs/Defaults, `unit_there`.
-use Rattle.std.specs.Prelude.{Bool, true, false, cond, List, [], ◌∷◌, ℕ, ◌+◌, ◌/◌, max, eqb}
-use Rattle.flash_blank.specs.declared.Search.{Search}
-use Rattle.flash_blank.specs.declared.Search.TheVariants.{Clean, Dirty}
+-- The search for the first unit that holds a byte other than FFh: its number, none where all bytes are FFh. Units are counted from the front; a unit of
+-- 0 counts as 1, which never decides in a write: device_steps, proofs/Defaults, `unit_there`.
+use Rattle.std.specs.Prelude.{Bool, true, false, cond, List, [], ◌∷◌, ℕ, ◌+◌, ◌/◌, max, eqb, Option, Some, None}
 
 -- among the bytes from place i on
-unfoldable pub searched_from : ℕ → ℕ → List ℕ → Search
-searched_from unit i [] = Clean
-searched_from unit i (b ∷ bs) = cond (eqb b 0xFF) (searched_from unit (i + 1) bs) (Dirty (i / unit))
+unfoldable pub searched_from : ℕ → ℕ → List ℕ → Option ℕ
+searched_from unit i [] = None
+searched_from unit i (b ∷ bs) = cond (eqb b 0xFF) (searched_from unit (i + 1) bs) (Some (i / unit))
 
-unfoldable pub searched : ℕ → List ℕ → Search
+unfoldable pub searched : ℕ → List ℕ → Option ℕ
 searched unit target = searched_from (max unit 1) 0 target
 
 -- whether all bytes are FFh

@@ -2,7 +2,7 @@
 -- Assumes nothing.
 use mathlib.Core.Bool.{Bool, true, false, ◌&&◌, ◌||◌, not, cond}
 use mathlib.Core.List.{List, [], ◌∷◌, ◌++◌}
-use mathlib.Core.Option.{some}
+use Rattle.std.specs.Prelude.{Some, None}
 use mathlib.Core.Path.{◌≡◌, refl, ap, subst, ◌∙◌}
 use Prim.Native.Nat.{ℕ, zero, suc, ◌+◌, ◌-◌, ◌/◌, ◌^◌, ◌≤◌, ◌<◌}
 use native.Mathlib.Nat.{mod-lt}
@@ -28,8 +28,6 @@ use Rattle.host_judge.specs.Reply.{judgement_number, is_unanswered, due_for, gra
 use Rattle.host_judge.specs.Judge.{fresh_judge, length_in, with_count, is_kept, grown, begun, advanced, finished, heard_byte, hearing_of, taken_of}
 use Rattle.host_judge.proofs.OneByte.{number_of_two, and_false}
 use Rattle.host_judge.proofs.Verdicts.{taken_none, judge_next}
-use Rattle.host_bytes.specs.declared.RequestIn.TheVariants.{Is}
-use Rattle.host_bytes.specs.declared.JudgementIn.TheVariants.{Is as Says, NoJudgement}
 use Rattle.host_bytes.specs.Requests.{request_number, first_number, second_number, request_in}
 use Rattle.host_bytes.specs.Judges.{judgement_in, reply_in, judge_in, judge_bytes}
 use Rattle.host_bytes.proofs.Widths.{Coded, FormedJudge}
@@ -86,7 +84,7 @@ judged_coded r n res first h = by (grants (due_for r) (number_for r) n res first
     by true denied e = tt
     by false false e = tt
     by false true e =
-        let some : first ≡ 0 → ⊥ =
+        let Some : first ≡ 0 → ⊥ =
         λ z. let k : _ ≡ false = ap (denies (number_for r) n res) z ∙ zero_is_no_refusal (number_for r) n res in impossible (cc) in
         (omega arith, omega arith)
 
@@ -190,7 +188,7 @@ taken_formed j f (b ∷ bytes) t =
     by false e later = rw (taken_none j (b ∷ bytes) e) f
 
 -- a request's own numbers are within its widths where they have four bytes: an area's number is looked at
-told_width : (r : Request) → request_in (request_number r) (first_number r) (second_number r) ≡ Is r → first_number r < 4294967296
+told_width : (r : Request) → request_in (request_number r) (first_number r) (second_number r) ≡ Some r → first_number r < 4294967296
     → second_number r < 4294967296 → InWidth r
 unfolding request_in
 told_width Inquiry e f s = tt
@@ -205,13 +203,13 @@ told_width WriteData e f s = tt
 told_width (Next left) e f s = f
 
 -- so are those of the request that numbers of four bytes are
-pub asked_width : (n first second : ℕ) → first < 4294967296 → second < 4294967296 → (r : Request) → request_in n first second ≡ Is r → InWidth r
+pub asked_width : (n first second : ℕ) → first < 4294967296 → second < 4294967296 → (r : Request) → request_in n first second ≡ Some r → InWidth r
 asked_width n first second f s r e =
     let a = request_only n first second r e in
     told_width r (rw (← a.0, ← a.1, ← a.2) e) (omega (arith, a.1)) (omega (arith, a.2))
 
 -- the verdict of a number refuses with a byte that is not 0, if it refuses
-said_coded : (n : ℕ) (v : Judgement) → judgement_in n ≡ Says v → Coded v
+said_coded : (n : ℕ) (v : Judgement) → judgement_in n ≡ Some v → Coded v
 unfolding judgement_in
 said_coded n Unanswered h = tt
 said_coded n Passed h = tt
@@ -222,7 +220,7 @@ said_coded n (Refused code) h =
     chosen (eqb n 2) h₂ (λ _ e. impossible (cc)) (λ _ h₃.
     by (leb n 256) refl (ltb 511 n) refl h₃)))
   where
-    by : (s : Bool) → leb n 256 ≡ s → (t : Bool) → ltb 511 n ≡ t → cond (s || t) NoJudgement (Says (Refused (n - 256))) ≡ Says (Refused code)
+    by : (s : Bool) → leb n 256 ≡ s → (t : Bool) → ltb 511 n ≡ t → cond (s || t) None (Some (Refused (n - 256))) ≡ Some (Refused code)
         → (1 ≤ code) × (code ≤ 255)
     by true p t q e = impossible (cc)
     by false p true q e = impossible (cc)
@@ -239,7 +237,7 @@ four_below bs t at h =
     omega (arith, value_read 4 at bs h, rw l at n)
 
 -- a judge that was read from bytes
-pub in_formed : (bs : List ℕ) → AllBytes bs → (j : Judge) → judge_in bs ≡ some j → FormedJudge j
+pub in_formed : (bs : List ℕ) → AllBytes bs → (j : Judge) → judge_in bs ≡ Some j → FormedJudge j
 unfolding AllBytes judge_bytes bytes_of reply_in
 in_formed bs t j h =
     let o = judge_read bs j h in

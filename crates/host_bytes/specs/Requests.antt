@@ -1,9 +1,7 @@
 -- A request as three numbers: its own, and those that it carries, 0 where it has none.
-use Rattle.std.specs.Prelude.{not, cond, ℕ, ltb, eqb}
+use Rattle.std.specs.Prelude.{not, cond, ℕ, ltb, eqb, Option, Some, None}
 use Rattle.host_request.specs.declared.Request.{Request}
 use Rattle.host_request.specs.declared.Request.TheVariants.{Inquiry, Erase, Write, Read, Authenticate, Baud, Signature, Area, WriteData, Next}
-use Rattle.host_bytes.specs.declared.RequestIn.{RequestIn}
-use Rattle.host_bytes.specs.declared.RequestIn.TheVariants.{Is, NoRequest}
 
 -- none has 0: bytes that were only cleared are no request
 abbrev pub request_number : Request → ℕ
@@ -45,28 +43,28 @@ second_number WriteData = 0
 second_number (Next left) = 0
 
 -- the other way round: requests without a number of their own,
-abbrev pub bare_in : ℕ → RequestIn
+abbrev pub bare_in : ℕ → Option Request
 bare_in n =
-    cond (eqb n 1) (Is Inquiry)
-    (cond (eqb n 5) (Is Authenticate)
-    (cond (eqb n 7) (Is Signature)
-    (cond (eqb n 9) (Is WriteData)
-    NoRequest)))
+    cond (eqb n 1) (Some Inquiry)
+    (cond (eqb n 5) (Some Authenticate)
+    (cond (eqb n 7) (Some Signature)
+    (cond (eqb n 9) (Some WriteData)
+    None)))
 
 -- with one at most,
-abbrev pub single_in : ℕ → ℕ → RequestIn
+abbrev pub single_in : ℕ → ℕ → Option Request
 single_in n first =
-    cond (eqb n 6) (Is (Baud first))
-    (cond (eqb n 10) (Is (Next first))
-    (cond (eqb n 8) (cond (ltb first 256) (Is (Area first)) NoRequest)
-    (cond (not (eqb first 0)) NoRequest
+    cond (eqb n 6) (Some (Baud first))
+    (cond (eqb n 10) (Some (Next first))
+    (cond (eqb n 8) (cond (ltb first 256) (Some (Area first)) None)
+    (cond (not (eqb first 0)) None
     (bare_in n))))
 
 -- and all: a number that the request does not have is 0
-unfoldable pub request_in : ℕ → ℕ → ℕ → RequestIn
+unfoldable pub request_in : ℕ → ℕ → ℕ → Option Request
 request_in n first second =
-    cond (eqb n 2) (Is (Erase first second))
-    (cond (eqb n 3) (Is (Write first second))
-    (cond (eqb n 4) (Is (Read first second))
-    (cond (not (eqb second 0)) NoRequest
+    cond (eqb n 2) (Some (Erase first second))
+    (cond (eqb n 3) (Some (Write first second))
+    (cond (eqb n 4) (Some (Read first second))
+    (cond (not (eqb second 0)) None
     (single_in n first))))

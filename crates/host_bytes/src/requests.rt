@@ -1,66 +1,30 @@
 // Requests as numbers: each its own, and those that it carries.
 ghost use Rattle.std.specs.Prelude.{◌≡◌};
-ghost use Rattle.host_bytes.specs.Requests.{request_number, first_number, second_number, bare_in, single_in, request_in};
+ghost use Rattle.host_bytes.specs.Requests.{request_number, first_number, second_number, request_in};
 
-use crate::RequestIn;
 use host_request::Request;
-
-// A request that has no number of its own.
-fn bare_of(n: u32) -> RequestIn
-    ensures { result ≡ bare_in n }
-{
-    match n {
-        1 => RequestIn::Is(Request::Inquiry),
-        5 => RequestIn::Is(Request::Authenticate),
-        7 => RequestIn::Is(Request::Signature),
-        9 => RequestIn::Is(Request::WriteData),
-        _ => RequestIn::NoRequest,
-    }
-}
-
-// A request that has one number, or none.
-fn single_of(n: u32, first: u32) -> RequestIn
-    ensures { result ≡ single_in n first }
-{
-    if n == 6 {
-        return RequestIn::Is(Request::Baud(first));
-    }
-    if n == 10 {
-        return RequestIn::Is(Request::Next(first));
-    }
-    if n == 8 {
-        if first < 256 {
-            return RequestIn::Is(Request::Area(first as u8));
-        }
-        return RequestIn::NoRequest;
-    }
-    if first != 0 {
-        return RequestIn::NoRequest;
-    }
-    bare_of(n)
-}
 
 // The request of a number, with its own numbers: 0 where it has none.
 #[tactic(auto, unfolding(crate::specs::Requests::request_in))]
-pub fn request_of(n: u32, first: u32, second: u32) -> RequestIn
+pub fn request_of(n: u32, first: u32, second: u32) -> Option<Request>
     ensures { result ≡ request_in n first second }
 {
-    if n == 2 {
-        return RequestIn::Is(Request::Erase(first, second));
+    match (n, first, second) {
+        (1, 0, 0) => Some(Request::Inquiry),
+        (2, sad, ead) => Some(Request::Erase(sad, ead)),
+        (3, sad, ead) => Some(Request::Write(sad, ead)),
+        (4, sad, ead) => Some(Request::Read(sad, ead)),
+        (5, 0, 0) => Some(Request::Authenticate),
+        (6, brt, 0) => Some(Request::Baud(brt)),
+        (7, 0, 0) => Some(Request::Signature),
+        (8, area @ 0..=255, 0) => Some(Request::Area(area as u8)),
+        (9, 0, 0) => Some(Request::WriteData),
+        (10, left, 0) => Some(Request::Next(left)),
+        _ => None,
     }
-    if n == 3 {
-        return RequestIn::Is(Request::Write(first, second));
-    }
-    if n == 4 {
-        return RequestIn::Is(Request::Read(first, second));
-    }
-    if second != 0 {
-        return RequestIn::NoRequest;
-    }
-    single_of(n, first)
 }
 
-// A request's number.
+// A request's number. No From: the type is another crate's.
 pub(crate) fn request_number(request: Request) -> u8
     ensures { result ≡ request_number request }
 {
@@ -78,38 +42,14 @@ pub(crate) fn request_number(request: Request) -> u8
     }
 }
 
-// The first of its own numbers, or 0.
-pub(crate) fn first_number(request: Request) -> u32
-    ensures { result ≡ first_number request }
+// Its own numbers: 0 for each that it does not have.
+pub(crate) fn own_numbers(request: Request) -> (u32, u32)
+    ensures { result ≡ (first_number request, second_number request) }
 {
     match request {
-        Request::Inquiry => 0,
-        Request::Erase(sad, _) => sad,
-        Request::Write(sad, _) => sad,
-        Request::Read(sad, _) => sad,
-        Request::Authenticate => 0,
-        Request::Baud(brt) => brt,
-        Request::Signature => 0,
-        Request::Area(n) => n as u32,
-        Request::WriteData => 0,
-        Request::Next(left) => left,
-    }
-}
-
-// The second, or 0.
-pub(crate) fn second_number(request: Request) -> u32
-    ensures { result ≡ second_number request }
-{
-    match request {
-        Request::Inquiry => 0,
-        Request::Erase(_, ead) => ead,
-        Request::Write(_, ead) => ead,
-        Request::Read(_, ead) => ead,
-        Request::Authenticate => 0,
-        Request::Baud(_) => 0,
-        Request::Signature => 0,
-        Request::Area(_) => 0,
-        Request::WriteData => 0,
-        Request::Next(_) => 0,
+        Request::Erase(sad, ead) | Request::Write(sad, ead) | Request::Read(sad, ead) => (sad, ead),
+        Request::Baud(n) | Request::Next(n) => (n, 0),
+        Request::Area(n) => (n as u32, 0),
+        _ => (0, 0),
     }
 }

@@ -2,16 +2,14 @@
 -- with exactly its code otherwise. Assumes nothing.
 use mathlib.Core.Bool.{Bool, true, false, cond}
 use mathlib.Core.List.{List}
-use mathlib.Core.Option.{none}
+use Rattle.std.specs.Prelude.{None, Ok, Err}
 use mathlib.Core.Path.{◌≡◌, refl, sym, ap, subst, ◌∙◌}
 use Prim.Native.Nat.{ℕ, ◌+◌, ◌-◌, ◌≤◌}
 use native.Mathlib.Omega.{arith}
 use lib.ListN.{length, get_or}
 use borrow.Author.Tests.{le-leb, eqb-false}
 use Rattle.numbers.specs.Bytes.{bytes_of}
-use Rattle.verdict.specs.declared.Verdict.{Verdict}
-use Rattle.verdict.specs.declared.Verdict.TheVariants.{Granted, Refused}
-use Rattle.verdict.specs.Check.{first_fault, verdict_of}
+use Rattle.verdict.specs.Check.{first_fault, verdict_of, Verdict}
 use Rattle.verdict.proofs.FirstFault.{granted_clear}
 use Rattle.profile.specs.declared.Profile.{Profile}
 use Rattle.profile.specs.Areas.{areas_of, no_area}
@@ -84,7 +82,7 @@ unfolding entered
 entered_passes p st q code = by (total_erase st.id (info_of q))
   where
     by : (t : Bool)
-        → judgement_of Authenticate (cond t (told q Granted EraseAll (fresh_state p)) (told q Granted NoAct (moved Command st))).reply ≡ Passed
+        → judgement_of Authenticate (cond t (told q (Ok tt) EraseAll (fresh_state p)) (told q (Ok tt) NoAct (moved Command st))).reply ≡ Passed
     by true = status_passes Authenticate (code_at q) code refl
     by false = status_passes Authenticate (code_at q) code refl
 
@@ -93,7 +91,7 @@ module _ (p : Profile) (m : Machine) (sad ead : ℕ) (bytes : List ℕ) (s : Sen
   abbrev asked : List ℕ
   asked = packet_for (Read sad ead) bytes
 
-  first_passes : first_fault (command_checks p m.state asked) ≡ none
+  first_passes : first_fault (command_checks p m.state asked) ≡ None
       → judgement_of (Read sad ead) (read_packet p m.image m.state (span_of (sad_of asked) (ead_of asked))).reply ≡ Passed
   first_passes granted =
       let cmd : com_of (code_at asked) ≡ ComRead = packet_com (Read sad ead) bytes in
@@ -106,7 +104,7 @@ module _ (p : Profile) (m : Machine) (sad ead : ℕ) (bytes : List ℕ) (s : Sen
 
 -- a command that is granted passes
 grant_passes : (p : Profile) (m : Machine) (r : Request) (bytes : List ℕ) → Sent p m r bytes → kind_for r ≡ CommandPacket
-    → first_fault (command_checks p m.state (packet_for r bytes)) ≡ none
+    → first_fault (command_checks p m.state (packet_for r bytes)) ≡ None
     → judgement_of r (grant_of p m.image m.state (packet_for r bytes) (com_for r)).reply ≡ Passed
 unfolding grant_of signature_message area_message bytes_of
 grant_passes p m Inquiry bytes s k granted = status_passes Inquiry (code_at (packet_for Inquiry bytes)) (packet_code Inquiry bytes) refl
@@ -137,11 +135,11 @@ module _ (p : Profile) (m : Machine) (r : Request) (bytes : List ℕ) (s : Sent 
     where
       by : (v : Verdict) → verdict_of (first_fault (command_checks p m.state packet)) ≡ v
           → judgement_of r (decided p m.image m.state packet v).reply ≡ told_as v
-      by Granted e =
+      by (Ok tt) e =
           let granted = granted_clear (first_fault (command_checks p m.state packet)) e in
           ap (λ (cmd : Com). judgement_of r (grant_of p m.image m.state packet cmd).reply) (packet_com r bytes)
           ∙ grant_passes p m r bytes s k granted
-      by (Refused reason) e = refusal_judged r (code_at packet) (packet_code r bytes) reason
+      by (Err reason) e = refusal_judged r (code_at packet) (packet_code r bytes) reason
 
   -- a command, to a device that awaits one
   awaited_agrees : kind_for r ≡ CommandPacket → (stage : Stage) → awaits_of stage ≡ Packet CommandPacket
@@ -159,8 +157,8 @@ unfolding answer_write write_decided
 data_agrees p image st range q = by (verdict_of (first_fault (write_checks (areas_of p) image range q)))
   where
     by : (v : Verdict) → judgement_of WriteData (write_decided st range q v).reply ≡ told_as v
-    by Granted = status_passes WriteData 0x13 refl refl
-    by (Refused reason) = refusal_judged WriteData 0x13 refl reason
+    by (Ok tt) = status_passes WriteData 0x13 refl refl
+    by (Err reason) = refusal_judged WriteData 0x13 refl reason
 
 -- a next packet, to a device that reads
 next_agrees : (p : Profile) (m : Machine) (left : ℕ) (bytes : List ℕ) → Sent p m (Next left) bytes → (i : InRead m.state.stage left)
@@ -172,10 +170,10 @@ next_agrees p m left bytes s i q = by (verdict_of (first_fault (next_checks q)))
     some = eqb-false left 0 (buildable_left (Next left) (length bytes) s.buildable)
 
     by : (v : Verdict) → judgement_of (Next left) (next_decided p m.image m.state i.range v).reply ≡ told_as v
-    by Granted =
+    by (Ok tt) =
         read_passes (Next left) i.range m.image p (ap read_due (sym i.amount)) refl (omega (arith, some, i.amount))
         (read_whole p s.profile m s.fits s.image i.range i.is) m.state
-    by (Refused reason) = refusal_judged (Next left) 0x15 refl reason
+    by (Err reason) = refusal_judged (Next left) 0x15 refl reason
 
 -- what the judge makes of a device's answer is what the device's checks say of the packet
 answer_agrees : (p : Profile) (m : Machine) (r : Request) (bytes : List ℕ) → Sent p m r bytes

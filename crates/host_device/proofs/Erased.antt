@@ -7,7 +7,6 @@ use lib.ListN.{length, replicate, length-replicate, get_or-replicate}
 use lib.Seq.{ext_get_or}
 use Rattle.verdict.specs.Check.{first_fault}
 use Rattle.profile.specs.declared.Profile.{Profile}
-use Rattle.profile.specs.declared.Place.TheVariants.{In}
 use Rattle.profile.specs.Areas.{areas_of, total_of, entries, inside}
 use Rattle.profile.specs.Places.{place_from, place_of, offset_in}
 use Rattle.profile.specs.Bench.{bench}
@@ -26,6 +25,7 @@ use Rattle.host_device.specs.Writing.{Blank, Within}
 use Rattle.host_device.proofs.Stored.{BlankFrom, in_image, fetched_blank}
 use Rattle.host_device.proofs.Target.{Target, target}
 use Rattle.host_device.proofs.Writing.{within}
+use Rattle.std.specs.Prelude.{Some}
 use Rattle.host_device.proofs.Examples.{bench_accepted}
 
 -- all of the flash, erased
@@ -58,7 +58,7 @@ module _ (p : Profile) (s e : ℕ) (t : Target p s e) where
   -- so it is fetched as FFh alone, as many as were asked for
   erased_fetched : fetched (areas_of p) s (e + 1 - s) (erased_image p) ≡ replicate (e + 1 - s) 0xFF
   erased_fetched =
-      let found : place_of (areas_of p) s ≡ In t.spot = t.same s t.low (omega (arith, t.order, t.high)) in
+      let found : place_of (areas_of p) s ≡ Some t.spot = t.same s t.low (omega (arith, t.order, t.high)) in
       all_blank_lem (e + 1 - s) (fetched (areas_of p) s (e + 1 - s) (erased_image p))
       (fetched_whole (areas_of p) s (e + 1 - s) (erased_image p) t.spot found (erased_whole p) (omega (arith, t.order, t.high)))
       (fetched_blank (areas_of p) t.spot t.same s e t.low t.order t.high (erased_image p) (erased_whole p) (e + 1 - s)

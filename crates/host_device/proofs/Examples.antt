@@ -6,7 +6,7 @@ use mathlib.Core.Path.{◌≡◌, refl}
 use Prim.Native.Nat.{ℕ}
 use native.Mathlib.Omega.{arith}
 use lib.ListN.{length}
-use Rattle.numbers.specs.Bytes.{number, number_at, bytes_of}
+use Rattle.numbers.specs.Bytes.{number, value_at, bytes_of}
 use Rattle.verdict.specs.Check.{first_fault}
 use Rattle.profile.specs.Areas.{areas_of, entries, inside, tally, total_of}
 use Rattle.profile.specs.Places.{place_from}
@@ -93,7 +93,7 @@ heard_back_of image l =
 pub meetings_hold : (image : List ℕ) → map (heard_back_of image) meetings ≡ map (λ (l : Meeting). l.comes) meetings
 unfolding feed_of step_of step_in heard answer_command decided command_checks known_checks form_checks com_of com_in four_at fresh_state
     answer_write write_decided write_checks target_checks amount_checks answer_next next_decided next_checks asks_next first_fault
-    progress_of measured_of length_of permitted ending_checks ends_well sum_of lack frame number number_at bytes_of
+    progress_of measured_of length_of permitted ending_checks ends_well sum_of lack frame number value_at bytes_of
     judgement_of judged_at packet_judged judged_by grants denies from_mark
 meetings_hold image = refl
 

@@ -1,7 +1,7 @@
 -- The command and the data packets of a planned write: the device grants each, and what it is then. Assumes nothing.
 use mathlib.Core.Bool.{true}
 use mathlib.Core.List.{List, []}
-use mathlib.Core.Option.{Option, none, some}
+use Rattle.std.specs.Prelude.{Option, None, Some, Ok}
 use mathlib.Core.Path.{◌≡◌, refl, sym, ap, ◌∙◌}
 use Prim.Native.Nat.{ℕ, ◌+◌, ◌%◌, ◌≤◌, ◌<◌}
 use native.Mathlib.Omega.{arith}
@@ -9,7 +9,6 @@ use lib.ListN.{length}
 use borrow.Author.Tests.{le-leb}
 use Rattle.numbers.specs.Bytes.{bytes_of}
 use Rattle.verdict.specs.declared.Reason.{Reason}
-use Rattle.verdict.specs.declared.Verdict.TheVariants.{Granted}
 use Rattle.verdict.specs.Check.{first_fault, verdict_of, passes}
 use Rattle.verdict.proofs.FirstFault.{granted_then}
 use Rattle.profile.specs.declared.Profile.{Profile}
@@ -50,9 +49,9 @@ use Rattle.host_device.specs.Agreement.{sending}
 use Rattle.host_device.proofs.Whole.{whole_delivered}
 
 -- a test that passes found no fault
-passed_clear : (f : Option Reason) → passes f ≡ true → f ≡ none
-passed_clear none e = refl
-passed_clear (some reason) e = impossible (cc)
+passed_clear : (f : Option Reason) → passes f ≡ true → f ≡ None
+passed_clear None e = refl
+passed_clear (Some reason) e = impossible (cc)
 
 -- the machine in a stage, with nothing held
 abbrev pub idle_in : Stage → State → List ℕ → Machine
@@ -60,31 +59,31 @@ idle_in stage st image = record { image = image; held = []; state = moved stage 
 
 -- the delivery of a packet of a write that is granted
 abbrev pub granted_to : Machine → List ℕ → Delivery
-granted_to m q = record { machine = m; reply = status_reply 0x13 Granted; consumed = length q }
+granted_to m q = record { machine = m; reply = status_reply 0x13 (Ok tt); consumed = length q }
 
 -- the delivery of a packet that has an answer
 abbrev answered_with : Profile → Machine → List ℕ → Answer → Delivery
 answered_with p m q a = record { machine = (settled p m (info_of q) a).machine; reply = a.reply; consumed = length q }
 
 -- a request's packet that ends well has no fault in its ending
-ending_passed : (q : List ℕ) → ends_well q ≡ true → first_fault (ending_checks q) ≡ none
+ending_passed : (q : List ℕ) → ends_well q ≡ true → first_fault (ending_checks q) ≡ None
 unfolding ends_well
 ending_passed q e = passed_clear (first_fault (ending_checks q)) e
 
 -- data of a write, in whole units, to blank flash
-module _ (p : Profile) (image : List ℕ) (st : State) (r : Range) (piece : List ℕ) (some : 1 ≤ length piece) (few : length piece ≤ 1024)
+module _ (p : Profile) (image : List ℕ) (st : State) (r : Range) (piece : List ℕ) (Some : 1 ≤ length piece) (few : length piece ≤ 1024)
     (most : length piece ≤ r.left) (whole : (r.next + length piece) % unit_before (areas_of p) (r.next + length piece) ≡ 0)
     (blank : AllBlank (fetched (areas_of p) r.next (length piece) image)) where
   abbrev q : List ℕ
   q = packet_for WriteData piece
 
   -- such data makes a packet
-  buildable : first_fault (request_checks WriteData (length piece)) ≡ none
+  buildable : first_fault (request_checks WriteData (length piece)) ≡ None
   unfolding request_checks enclosable first_fault
-  buildable = rw (le-leb 1 (length piece) some, le-leb (length piece) 1024 few) refl
+  buildable = rw (le-leb 1 (length piece) Some, le-leb (length piece) 1024 few) refl
 
   -- no check of the write applies to it
-  data_granted : verdict_of (first_fault (write_checks (areas_of p) image r q)) ≡ Granted
+  data_granted : verdict_of (first_fault (write_checks (areas_of p) image r q)) ≡ Ok tt
   unfolding write_checks
   data_granted =
       let n : length piece ≡ info_count q = sym (packet_count WriteData piece) in
@@ -94,11 +93,11 @@ module _ (p : Profile) (image : List ℕ) (st : State) (r : Range) (piece : List
       let clean = blank_clean unit target blank in
       let units = blank_target (areas_of p) image r.next (length piece) unit refl whole target refl (searched unit target) refl clean in
       granted_then (ending_checks q) (target_checks (areas_of p) image r q) (ap verdict_of (ending_passed q (packet_whole WriteData piece buildable).1))
-      ∙ sym (target_granted (areas_of p) image r q Granted amount refl (length piece) n Granted units)
+      ∙ sym (target_granted (areas_of p) image r q (Ok tt) amount refl (length piece) n (Ok tt) units)
 
   -- what answers n data bytes that are granted
   abbrev accepting : ℕ → Answer
-  accepting n = record { act = Store r.next n; state = moved (after Writing r n) st; reply = status_reply 0x13 Granted }
+  accepting n = record { act = Store r.next n; state = moved (after Writing r n) st; reply = status_reply 0x13 (Ok tt) }
 
   -- so it is answered OK
   data_answer : answer_write p image (moved (Writing r) st) r q ≡ accepting (length piece)
@@ -127,12 +126,12 @@ module _ (p : Profile) (image : List ℕ) (st : State) (s e : ℕ) (start : s < 
   command = packet_for (Write s e) []
 
   -- it makes a packet
-  asked : first_fault (request_checks (Write s e) 0) ≡ none
+  asked : first_fault (request_checks (Write s e) 0) ≡ None
   unfolding request_checks enclosable first_fault
   asked = refl
 
   -- no check of the command applies to it
-  command_granted : verdict_of (first_fault (command_checks p (moved Command st) command)) ≡ Granted
+  command_granted : verdict_of (first_fault (command_checks p (moved Command st) command)) ≡ Ok tt
   unfolding command_checks own_checks Permitted bytes_of
   command_granted =
       let r : Request = Write s e in
@@ -144,7 +143,7 @@ module _ (p : Profile) (image : List ℕ) (st : State) (s e : ℕ) (start : s < 
 
   -- so it is answered OK
   command_answer : answer_command p image (moved Command st) command
-      ≡ record { act = Nothing; state = moved (Writing (span_of s e)) st; reply = status_reply 0x13 Granted }
+      ≡ record { act = Nothing; state = moved (Writing (span_of s e)) st; reply = status_reply 0x13 (Ok tt) }
   unfolding answer_command decided grant_of
   command_answer =
       let r : Request = Write s e in

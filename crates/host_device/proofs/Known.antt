@@ -7,7 +7,6 @@ use native.Mathlib.Omega.{arith}
 use lib.ListN.{length, take, drop, get_or}
 use lib.Seq.{length-take-le, take_all, take-take, take_at, get_or-take, ext_get_or}
 use Rattle.numbers.specs.Bytes.{bytes_of}
-use Rattle.verdict.specs.declared.Verdict.TheVariants.{Granted}
 use Rattle.verdict.specs.Check.{first_fault, verdict_of}
 use Rattle.profile.specs.declared.Area.{Area as AreaFields}
 use Rattle.profile.specs.declared.Profile.{Profile}
@@ -38,8 +37,6 @@ use Rattle.host_request.specs.Request.{com_for, kind_for, packet_for}
 use Rattle.host_request.proofs.Packets.{packet_com, packet_area}
 use Rattle.host_judge.specs.declared.Judge.{Judge}
 use Rattle.host_judge.specs.declared.Judgement.TheVariants.{Passed}
-use Rattle.host_judge.specs.declared.Sci.TheVariants.{Is as SciIs}
-use Rattle.host_judge.specs.declared.Fields.TheVariants.{Are}
 use Rattle.host_judge.specs.Reply.{from_mark, judgement_of}
 use Rattle.host_judge.specs.Judge.{fresh_judge, hearing_of, sci_by, area_by, sci_in, area_in}
 use Rattle.host_judge.proofs.Keeping.{length_bytes, data_in, length_bytes_lem}
@@ -49,6 +46,7 @@ use Rattle.host_device.specs.Agreement.{Sent, verdict_in, sending}
 use Rattle.host_device.proofs.Replies.{few_data, frame_mark}
 use Rattle.host_device.proofs.Taken.{whole_taken}
 use Rattle.host_device.proofs.Agreement.{step_awaits, sent_as}
+use Rattle.std.specs.Prelude.{Some, Ok}
 use Rattle.host_device.proofs.Telling.{passed_granted}
 
 -- a data reply of at most seventeen data bytes
@@ -100,12 +98,12 @@ module _ (p : Profile) (m : Machine) (r : Request) (bytes : List ℕ) (s : Sent 
   q = packet_for r bytes
 
   -- by the checks of a command
-  grant_here : verdict_of (first_fault (command_checks p m.state q)) ≡ Granted
+  grant_here : verdict_of (first_fault (command_checks p m.state q)) ≡ Ok tt
       → (answer_command p m.image m.state q).reply ≡ (grant_of p m.image m.state q (com_for r)).reply
   grant_here v = ap (λ (x : Answer). x.reply) (sym (granted_as p m.image m.state q (com_for r) (sym (packet_com r bytes)) v))
 
   -- in either stage that awaits a command
-  grant_told : (stage : Stage) → awaits_of stage ≡ Packet (kind_for r) → verdict_in p m.image m.state stage q ≡ Granted
+  grant_told : (stage : Stage) → awaits_of stage ≡ Packet (kind_for r) → verdict_in p m.image m.state stage q ≡ Ok tt
       → (answer_of p m.image m.state stage q).reply ≡ (grant_of p m.image m.state q (com_for r)).reply
   grant_told (Setting u) a v = impossible (cc)
   grant_told Authentication a v = grant_here v
@@ -152,13 +150,13 @@ signature_read p below =
 -- a signature that passed tells the device's SCI
 pub sci_known : (p : Profile) (m : Machine) (bytes : List ℕ) → Sent p m Signature bytes → p.sci < 4294967296
     → judgement_of Signature (sending p m Signature bytes).reply ≡ Passed
-    → sci_in (hearing_of (fresh_judge Signature) (sending p m Signature bytes).reply).judge ≡ SciIs p.sci
+    → sci_in (hearing_of (fresh_judge Signature) (sending p m Signature bytes).reply).judge ≡ Some p.sci
 unfolding grant_of
 sci_known p m bytes s below passed =
     let e : (sending p m Signature bytes).reply ≡ data_reply 0x3A (signature_message p) = passed_reply p m Signature bytes s refl passed in
     sci_of Signature (sending p m Signature bytes).reply passed
-    ∙ ap (λ (l : List ℕ). SciIs (four_at (hearing_of (fresh_judge Signature) l).judge.reply.first 0)) e
-    ∙ ap SciIs (signature_read p below)
+    ∙ ap (λ (l : List ℕ). Some (four_at (hearing_of (fresh_judge Signature) l).judge.reply.first 0)) e
+    ∙ ap Some (signature_read p below)
 
 -- nor has an area
 area_few : (a : AreaFields) → length (area_message a) ≤ 17
@@ -187,7 +185,7 @@ area_read n a =
 -- an area that passed tells the fields of the device's area of that number
 pub area_known : (p : Profile) (m : Machine) (n : ℕ) (bytes : List ℕ) → Sent p m (Area n) bytes → FormedArea (get_or p.areas n no_area)
     → judgement_of (Area n) (sending p m (Area n) bytes).reply ≡ Passed
-    → area_in (hearing_of (fresh_judge (Area n)) (sending p m (Area n) bytes).reply).judge ≡ Are (get_or p.areas n no_area)
+    → area_in (hearing_of (fresh_judge (Area n)) (sending p m (Area n) bytes).reply).judge ≡ Some (get_or p.areas n no_area)
 unfolding grant_of
 area_known p m n bytes s formed passed =
     let a : AreaFields = get_or p.areas n no_area in
@@ -195,6 +193,6 @@ area_known p m n bytes s formed passed =
     passed_reply p m (Area n) bytes s refl passed
     ∙ ap (λ (k : ℕ). data_reply 0x3B (area_message (get_or p.areas k no_area))) (packet_area (Area n) bytes n refl) in
     area_of (Area n) (sending p m (Area n) bytes).reply passed
-    ∙ ap (λ (l : List ℕ). Are (area_at (hearing_of (fresh_judge (Area n)) l).judge.reply.first 0)) e
-    ∙ ap (λ (l : List ℕ). Are (area_at l 0)) (area_read n a)
-    ∙ ap Are (message_back a formed)
+    ∙ ap (λ (l : List ℕ). Some (area_at (hearing_of (fresh_judge (Area n)) l).judge.reply.first 0)) e
+    ∙ ap (λ (l : List ℕ). Some (area_at l 0)) (area_read n a)
+    ∙ ap Some (message_back a formed)

@@ -10,7 +10,6 @@ use lib.Dec.{eqb}
 use borrow.Author.Tests.{le-leb, lt-ltb, eq-eqb, ne_eqb}
 use Rattle.numbers.specs.Bytes.{bytes_of}
 use Rattle.verdict.specs.declared.Reason.{Reason}
-use Rattle.verdict.specs.declared.Verdict.TheVariants.{Granted, Refused}
 use Rattle.verdict.specs.Code.{code_of}
 use Rattle.verdict.proofs.Codes.{code_positive}
 use Rattle.packet.specs.declared.Kind.TheVariants.{Data as DataPacket}
@@ -24,6 +23,7 @@ use Rattle.host_request.specs.Request.{number_for}
 use Rattle.host_judge.specs.declared.Due.{Due}
 use Rattle.host_judge.specs.declared.Due.TheVariants.{Status, Data, Nothing}
 use Rattle.host_judge.specs.declared.Judgement.TheVariants.{Passed, Refused as RefusedWith}
+use Rattle.std.specs.Prelude.{Ok, Err}
 use Rattle.host_judge.specs.Reply.{read_due, due_for, grants, denies, judged_by, from_mark, first_packet, packet_judged, judged_at, judgement_of}
 
 -- a data packet
@@ -118,14 +118,14 @@ module _ (r : Request) where
 -- a reply to the request's own number
 module _ (r : Request) (request : ℕ) (is : request ≡ number_for r) where
   -- a refusal is told with exactly its code
-  pub refusal_judged : (reason : Reason) → judgement_of r (status_reply request (Refused reason)) ≡ RefusedWith (code_of reason)
+  pub refusal_judged : (reason : Reason) → judgement_of r (status_reply request (Err reason)) ≡ RefusedWith (code_of reason)
   refusal_judged reason =
       data_judged r (marked request) (code_of reason ∷ []) (omega arith) (omega arith)
       ∙ ap (λ (n : ℕ). judged_by r 2 (marked n) (code_of reason)) is
       ∙ denial_told r (code_of reason) (code_positive reason)
 
   -- OK passes where a status is due
-  pub status_passes : due_for r ≡ Status → judgement_of r (status_reply request Granted) ≡ Passed
+  pub status_passes : due_for r ≡ Status → judgement_of r (status_reply request (Ok tt)) ≡ Passed
   status_passes due =
       data_judged r request (0x00 ∷ []) (omega arith) (omega arith) ∙ ap (λ (n : ℕ). judged_by r 2 n 0x00) is ∙ status_told r due
 

@@ -8,7 +8,6 @@ use lib.ListN.{length, take, drop, get_or, replicate, length-append, length-take
 use lib.Seq.{take_all, take_at, drop_at, length-take-le, ext_get_or}
 use Rattle.profile.specs.declared.Area.{Area}
 use Rattle.profile.specs.declared.Spot.{Spot}
-use Rattle.profile.specs.declared.Place.TheVariants.{In}
 use Rattle.profile.specs.Areas.{size_of, total_of}
 use Rattle.profile.specs.Places.{place_of, offset_in}
 use Rattle.profile.proofs.Places.{area_below_total}
@@ -17,6 +16,7 @@ use Rattle.flash_blank.proofs.Found.{AllBlank}
 use Rattle.flash.proofs.Lists.{below, get_d_behind}
 use Rattle.flash.proofs.Along.{length_along}
 use Rattle.flash.proofs.Writes.{storing_in, storing_only}
+use Rattle.std.specs.Prelude.{Some}
 use Rattle.flash.proofs.ByAddress.{changed_length, stored_in, stored_out, stored_length, fetched_at_lem, fetched_length}
 
 -- an effect that is no effect on any byte
@@ -130,10 +130,10 @@ abbrev pub BlankFrom : Spot → List ℕ → ℕ → ℕ → Type 0
 BlankFrom spot image s e = (x : ℕ) → s ≤ x → x ≤ e → get_or image (offset_in spot x) 0 ≡ 0xFF
 
 -- addresses of one area
-module _ (areas : List Area) (spot : Spot) (same : (x : ℕ) → spot.area.sad ≤ x → x ≤ spot.area.ead → place_of areas x ≡ In spot) where
+module _ (areas : List Area) (spot : Spot) (same : (x : ℕ) → spot.area.sad ≤ x → x ≤ spot.area.ead → place_of areas x ≡ Some spot) where
   module _ (s e : ℕ) (low : spot.area.sad ≤ s) (order : s ≤ e) (high : e ≤ spot.area.ead) (image : List ℕ)
       (whole : length image ≡ total_of areas) where
-    start_place : place_of areas s ≡ In spot
+    start_place : place_of areas s ≡ Some spot
     start_place = same s low (omega arith)
 
     -- the image has the byte of each address of the range

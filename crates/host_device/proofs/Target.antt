@@ -9,7 +9,6 @@ use Rattle.verdict.specs.Check.{NoneApplies}
 use Rattle.profile.specs.declared.Area.{Area}
 use Rattle.profile.specs.declared.Profile.{Profile}
 use Rattle.profile.specs.declared.Spot.{Spot}
-use Rattle.profile.specs.declared.Place.TheVariants.{In}
 use Rattle.profile.specs.declared.Window.{Window}
 use Rattle.profile.specs.Areas.{areas_of, size_of, inside}
 use Rattle.profile.specs.Places.{place_from, place_of, unit_at}
@@ -24,19 +23,20 @@ use Rattle.profile_ranges.proofs.Granted.{in_area_lem}
 use Rattle.packet.proofs.Laws.{impossible}
 use Rattle.device_steps.proofs.Going.{above}
 use Rattle.host_plan.specs.Plan.{plan_checks}
+use Rattle.std.specs.Prelude.{Some}
 use Rattle.host_device.specs.Writing.{unit_for}
 
 -- what every sound area has
 module _ (Has : Area → Type 0) (has : (free : ℕ) (a : Area) → SoundArea free a → Has a) where
   -- an area has that was found in a table that is sound
-  found_has : (free base : ℕ) (areas : List Area) (x : ℕ) (spot : Spot) → Ascending free areas → place_from base areas x ≡ In spot → Has spot.area
+  found_has : (free base : ℕ) (areas : List Area) (x : ℕ) (spot : Spot) → Ascending free areas → place_from base areas x ≡ Some spot → Has spot.area
   unfolding Ascending place_from
   found_has free base [] x spot s e = impossible (cc)
   found_has free base (a ∷ more) x spot s e = go (inside a x) refl (found_has (a.ead + 1) (base + size_of a) more x spot s.1)
     where
-      go : (t : Bool) → inside a x ≡ t → (place_from (base + size_of a) more x ≡ In spot → Has spot.area) → Has spot.area
+      go : (t : Bool) → inside a x ≡ t → (place_from (base + size_of a) more x ≡ Some spot → Has spot.area) → Has spot.area
       go true i later =
-          let here : In (record { area = a; base = base }) ≡ In spot = rw i at e in
+          let here : Some (record { area = a; base = base }) ≡ Some spot = rw i at e in
           let it : record { area = a; base = base } ≡ spot = cc in
           subst (λ (k : Spot). Has k.area) it (has free a s.0)
       go false i later = later (rw i at e)
@@ -45,7 +45,7 @@ module _ (Has : Area → Type 0) (has : (free : ℕ) (a : Area) → SoundArea fr
 pub record Target (p : Profile) (s e : ℕ) : Type 0 where
   pub spot : Spot
   -- every address of the area is found in it
-  pub same : (x : ℕ) → spot.area.sad ≤ x → x ≤ spot.area.ead → place_of (areas_of p) x ≡ In spot
+  pub same : (x : ℕ) → spot.area.sad ≤ x → x ≤ spot.area.ead → place_of (areas_of p) x ≡ Some spot
   pub low : spot.area.sad ≤ s
   pub order : s ≤ e
   pub high : e ≤ spot.area.ead
@@ -61,7 +61,7 @@ target p accepted w s e permitted =
     let ascend = (sound p accepted).areas in
     let l : Lies (areas_of p) w ToWrite s e = in_area_lem (areas_of p) w ToWrite s e permitted in
     let spot = l.spot in
-    let found : place_of (areas_of p) s ≡ In spot = l.in_area.found in
+    let found : place_of (areas_of p) s ≡ Some spot = l.in_area.found in
     let unit : spot.area.wau ≡ unit_for p s = sym (ap unit_at found) in
     let sizes : (spot.area.ead < 0xFFFFFFFF) × (spot.area.wau ≤ 1024) =
     found_has (λ (a : Area). (a.ead < 0xFFFFFFFF) × (a.wau ≤ 1024)) (λ free a h. (h.below_top, h.short_write)) 0 0 (areas_of p) s spot ascend

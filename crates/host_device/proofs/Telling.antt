@@ -4,8 +4,6 @@ use mathlib.Core.List.{List}
 use mathlib.Core.Logic.{◌↔◌}
 use mathlib.Core.Path.{◌≡◌, refl, sym, ap, ◌∙◌}
 use Prim.Native.Nat.{ℕ}
-use Rattle.verdict.specs.declared.Verdict.{Verdict}
-use Rattle.verdict.specs.declared.Verdict.TheVariants.{Granted, Refused}
 use Rattle.profile.specs.declared.Profile.{Profile}
 use Rattle.packet.proofs.Laws.{impossible}
 use Rattle.device_steps.specs.Step.{Machine}
@@ -15,17 +13,19 @@ use Rattle.host_judge.specs.declared.Judgement.{Judgement}
 use Rattle.host_judge.specs.declared.Judgement.TheVariants.{Passed, Refused as RefusedWith}
 use Rattle.host_judge.specs.Reply.{judgement_of}
 use Rattle.host_device.specs.Agreement.{Sent, verdict_in, told_as, RefusedFor, sending}
+use Rattle.verdict.specs.Check.{Verdict}
+use Rattle.std.specs.Prelude.{Ok, Err}
 use Rattle.host_device.proofs.Agreement.{agrees}
 
 -- only a grant is told as passed
-told_passed : (v : Verdict) → told_as v ≡ Passed → v ≡ Granted
-told_passed Granted e = refl
-told_passed (Refused reason) e = impossible (cc)
+told_passed : (v : Verdict) → told_as v ≡ Passed → v ≡ Ok tt
+told_passed (Ok tt) e = refl
+told_passed (Err reason) e = impossible (cc)
 
 -- only a refusal with that code is told as refused with it
 told_refused : (v : Verdict) (code : ℕ) → told_as v ≡ RefusedWith code → RefusedFor v code
-told_refused Granted code e = impossible (cc)
-told_refused (Refused reason) code e = record { reason = reason; is = refl; coded = cc }
+told_refused (Ok tt) code e = impossible (cc)
+told_refused (Err reason) code e = record { reason = reason; is = refl; coded = cc }
 
 -- a request that was sent
 module _ (p : Profile) (m : Machine) (r : Request) (bytes : List ℕ) (s : Sent p m r bytes) where
@@ -42,7 +42,7 @@ module _ (p : Profile) (m : Machine) (r : Request) (bytes : List ℕ) (s : Sent 
   told = (agrees p m r bytes s).judged
 
   -- passed exactly where it was granted
-  pub passed_granted : (said ≡ Passed) ↔ (verdict ≡ Granted)
+  pub passed_granted : (said ≡ Passed) ↔ (verdict ≡ Ok tt)
   passed_granted = (λ e. told_passed verdict (sym told ∙ e), λ e. told ∙ ap told_as e)
 
   -- refused with a code exactly where the device refused for a reason that has it

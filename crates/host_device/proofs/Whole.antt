@@ -8,9 +8,7 @@ use Prim.Native.Nat.{ℕ, suc}
 use native.Mathlib.Numerals.{add-one}
 use native.Mathlib.Omega.{arith}
 use lib.ListN.{length}
-use Rattle.verdict.specs.declared.Verdict.{Verdict}
-use Rattle.verdict.specs.declared.Verdict.TheVariants.{Granted, Refused}
-use Rattle.verdict.specs.Check.{first_fault, verdict_of}
+use Rattle.verdict.specs.Check.{first_fault, verdict_of, Verdict}
 use Rattle.profile.specs.declared.Profile.{Profile}
 use Rattle.profile.specs.Areas.{areas_of}
 use Rattle.packet.specs.declared.Kind.{Kind}
@@ -38,6 +36,7 @@ use Rattle.device_steps.specs.Step.{Machine, Step, settled, holding, answer_of, 
 use Rattle.device_steps.specs.Feed.{Delivery, feed_of}
 use Rattle.device_steps.specs.Records.{progress_in, completes}
 use Rattle.device_steps.proofs.Delivered.{later, at_once, feed_quiet, feed_reply}
+use Rattle.std.specs.Prelude.{Ok, Err}
 use Rattle.device_steps.proofs.Replies.{IsPacket, packet_step, packet_least}
 
 -- how many bytes were held plays no part in an answer
@@ -80,8 +79,8 @@ module _ (p : Profile) (image : List ℕ) (n : ℕ) (st : State) (q : List ℕ) 
   -- or refused
   decided_unheld : (v : Verdict) → decided p image counting q v ≡ decided p image st q v
   unfolding decided
-  decided_unheld Granted = grant_unheld (com_of (code_at q))
-  decided_unheld (Refused reason) = refl
+  decided_unheld (Ok tt) = grant_unheld (com_of (code_at q))
+  decided_unheld (Err reason) = refl
 
   -- a command's answer
   command_unheld : answer_command p image counting q ≡ answer_command p image st q
@@ -91,14 +90,14 @@ module _ (p : Profile) (image : List ℕ) (n : ℕ) (st : State) (q : List ℕ) 
   -- a data packet's, in a write
   write_unheld : (r : Range) (v : Verdict) → write_decided counting r q v ≡ write_decided st r q v
   unfolding write_decided
-  write_unheld r Granted = refl
-  write_unheld r (Refused reason) = refl
+  write_unheld r (Ok tt) = refl
+  write_unheld r (Err reason) = refl
 
   -- a request's for the next packet of a read
   next_unheld : (r : Range) (v : Verdict) → next_decided p image counting r v ≡ next_decided p image st r v
   unfolding next_decided read_packet
-  next_unheld r Granted = refl
-  next_unheld r (Refused reason) = refl
+  next_unheld r (Ok tt) = refl
+  next_unheld r (Err reason) = refl
 
   -- whatever the stage
   pub answer_unheld : (stage : Stage) → answer_of p image counting stage q ≡ answer_of p image st stage q

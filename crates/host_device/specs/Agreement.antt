@@ -1,10 +1,7 @@
 -- A request that is sent to a device, and what the judge makes of its reply.
-use Rattle.std.specs.Prelude.{List, [], ◌≡◌, ℕ, length}
-use Rattle.std.proofs.Math.Option.{none}
+use Rattle.std.specs.Prelude.{List, [], ◌≡◌, ℕ, length, None, Ok, Err}
 use Rattle.verdict.specs.declared.Reason.{Reason}
-use Rattle.verdict.specs.declared.Verdict.{Verdict}
-use Rattle.verdict.specs.declared.Verdict.TheVariants.{Granted, Refused}
-use Rattle.verdict.specs.Check.{first_fault, verdict_of}
+use Rattle.verdict.specs.Check.{first_fault, verdict_of, Verdict}
 use Rattle.verdict.specs.Code.{code_of}
 use Rattle.profile.specs.declared.Profile.{Profile}
 use Rattle.profile.specs.Areas.{areas_of, total_of}
@@ -62,7 +59,7 @@ pub record Sent (p : Profile) (m : Machine) (r : Request) (bytes : List ℕ) : T
   pub idle : m.held ≡ []
   pub step : InStep r m.state.stage
   pub width : InWidth r
-  pub buildable : first_fault (request_checks r (length bytes)) ≡ none
+  pub buildable : first_fault (request_checks r (length bytes)) ≡ None
 
 -- what the device's own checks say of a complete packet, by its stage; setting awaits none
 abbrev pub verdict_in : Profile → List ℕ → State → Stage → List ℕ → Verdict
@@ -74,13 +71,13 @@ verdict_in p image st (Reading r) q = verdict_of (first_fault (next_checks q))
 
 -- what the host is to make of it: passed if granted, otherwise refused with its code
 abbrev pub told_as : Verdict → Judgement
-told_as Granted = Passed
-told_as (Refused reason) = RefusedWith (code_of reason)
+told_as (Ok tt) = Passed
+told_as (Err reason) = RefusedWith (code_of reason)
 
 -- a refusal for a reason that has this code
 pub record RefusedFor (v : Verdict) (code : ℕ) : Type 0 where
   pub reason : Reason
-  pub is : v ≡ Refused reason
+  pub is : v ≡ Err reason
   pub coded : code_of reason ≡ code
 
 -- the delivery of a request's packet

@@ -1,5 +1,5 @@
 -- A write as it is planned: packets delivered whole, one after the other, with no reset and no other party.
-use Rattle.std.specs.Prelude.{List, [], ◌≡◌, ℕ, suc, ◌+◌, ◌-◌, ◌/◌, ◌%◌, ◌≤◌, length, replicate}
+use Rattle.std.specs.Prelude.{List, [], ◌≡◌, ℕ, suc, ◌+◌, ◌-◌, ◌/◌, ◌%◌, ◌≤◌, length, replicate, Some, None, Ok}
 use Rattle.profile.specs.declared.Profile.{Profile}
 use Rattle.profile.specs.Areas.{areas_of, total_of}
 use Rattle.profile.specs.Places.{place_of, unit_at}
@@ -16,8 +16,6 @@ use Rattle.host_judge.specs.declared.Judgement.TheVariants.{Passed}
 use Rattle.host_judge.specs.Reply.{judgement_of}
 use Rattle.host_plan.specs.declared.Plan.{Plan}
 use Rattle.host_plan.specs.declared.Sending.{Sending}
-use Rattle.host_plan.specs.declared.Following.TheVariants.{Send, Done}
-use Rattle.host_plan.specs.declared.Planned.TheVariants.{Is}
 use Rattle.host_plan.specs.Plan.{plan_of, following_of, piece_of, size_for}
 use Rattle.host_device.specs.Agreement.{sending}
 
@@ -32,8 +30,8 @@ machine_behind p m bytes s = (sending p m s.request (piece_of s bytes)).machine
 
 -- a plan that was carried out to its end: so many packets, each of them passed, from one machine to another
 pub data CarriedOut (p : Profile) (bytes : List ℕ) : Plan → Machine → ℕ → Machine → Type 0 where
-  all_sent : (plan : Plan) (m : Machine) → following_of plan ≡ Done → CarriedOut p bytes plan m 0 m
-  one_sent : (plan : Plan) (m after : Machine) (n : ℕ) (s : Sending) → following_of plan ≡ Send s → PassesOn p m bytes s
+  all_sent : (plan : Plan) (m : Machine) → following_of plan ≡ None → CarriedOut p bytes plan m 0 m
+  one_sent : (plan : Plan) (m after : Machine) (n : ℕ) (s : Sending) → following_of plan ≡ Some s → PassesOn p m bytes s
       → CarriedOut p bytes s.rest (machine_behind p m bytes s) n after → CarriedOut p bytes plan m (suc n) after
 
 -- a permitted write of these bytes into blank flash, to a device that awaits commands and holds nothing
@@ -59,7 +57,7 @@ parts_of n size = (n + (size - 1)) / size
 -- of them where WAU divides 1,024; then the flash holds the bytes, no other byte of it has changed, and the device awaits the next command
 pub record Within (p : Profile) (m : Machine) (s e : ℕ) (bytes : List ℕ) : Type 0 where
   pub plan : Plan
-  pub planned : plan_of s e (unit_for p s) (length bytes) ≡ Is plan
+  pub planned : plan_of s e (unit_for p s) (length bytes) ≡ Ok plan
   pub packets : ℕ
   pub after : Machine
   pub carried : CarriedOut p bytes plan m packets after

@@ -4,7 +4,6 @@ pub mod Exactly
 pub mod Keeping
 pub mod OneByte
 pub mod Parts
-pub mod Passed
 pub mod Runs
 pub mod There
 pub mod Tracking

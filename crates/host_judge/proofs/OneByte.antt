@@ -1,12 +1,11 @@
 -- What hearing one byte needs: lengths, numbers of requests, places in a reply. Assumes nothing.
-use Rattle.std.proofs.Common.{◌≡◌, ℕ, ◌+◌, ◌-◌, ◌*◌, ◌%◌, ◌<◌, ◌≤◌, Bool, true, false, cond, not, ◌&&◌, eqb, ◌⊎◌, List, [], ◌∷◌, set, sym, refl, ◌∙◌, inl, inr, arith, lt-ltb, eq-eqb, ne_eqb, eqb-true, le-leb}
-use borrow.Author.Tests.{lt-leb, eqb-false}
+use Rattle.std.proofs.Common.{◌≡◌, ℕ, ◌+◌, ◌*◌, ◌<◌, ◌≤◌, Bool, true, false, cond, not, ◌&&◌, eqb, ◌⊎◌, [], ◌∷◌, refl, inl, inr, arith, lt-ltb, eq-eqb, ne_eqb, le-leb}
+use borrow.Author.Tests.{lt-leb}
 use Rattle.numbers.specs.Bytes.{number}
 use Rattle.host_request.specs.declared.Request.{Request}
 use Rattle.host_request.specs.declared.Request.TheVariants.{Inquiry, Erase, Write, Read, Authenticate, Baud, Signature, Area, WriteData, Next}
 use Rattle.host_request.specs.Request.{number_for}
 use Rattle.host_judge.specs.declared.Due.{Due}
-use Rattle.host_judge.specs.declared.Due.TheVariants.{Status, Data, Nothing}
 use Rattle.host_judge.specs.declared.Judgement.TheVariants.{Passed, Refused, WrongReply}
 use Rattle.host_judge.specs.declared.Reply.{Reply}
 use Rattle.host_judge.specs.declared.Judge.{Judge}
@@ -31,21 +30,10 @@ number_unmarked (Area n) = omega arith
 number_unmarked WriteData = omega arith
 number_unmarked (Next left) = omega arith
 
--- a second test that holds decides nothing; one that fails decides
-pub and_true : (t : Bool) → (t && true) ≡ t
-and_true true = refl
-and_true false = refl
-
+-- a second test that fails decides
 pub and_false : (t : Bool) → (t && false) ≡ false
 and_false true = refl
 and_false false = refl
-
--- a reply with another RES grants nothing
-pub other_res : (due : Due) (number n res first : ℕ) → eqb res number ≡ false → grants due number n res first ≡ false
-unfolding grants
-other_res Status number n res first e = simp (e, and_false)
-other_res (Data count) number n res first e = simp (e, and_false)
-other_res Nothing number n res first e = refl
 
 -- before the data none is kept
 pub none_kept : (y : Reply) → y.count < 4 → is_kept y ≡ false
@@ -54,25 +42,6 @@ none_kept y h = simp (lt-leb 4 y.count h)
 -- a number is none below it
 pub unlike_below : (n k : ℕ) → k < n → eqb n k ≡ false
 unlike_below n k h = ne_eqb n k (λ q. omega arith)
-
--- a length is that of so much data and RES
-pub length_of_data : (n count : ℕ) → 0 < n → eqb (n - 1) count ≡ eqb n (count + 1)
-length_of_data n count h = by (eqb (n - 1) count) refl
-  where
-    by : (t : Bool) → eqb (n - 1) count ≡ t → eqb (n - 1) count ≡ eqb n (count + 1)
-    by true e = e ∙ sym (eq-eqb n (count + 1) (omega (arith, eqb-true (n - 1) count e)))
-    by false e = e ∙ sym (ne_eqb n (count + 1) (λ q. eqb-false (n - 1) count e (omega arith)))
-
--- a grown reply, field by field
-pub grown_fields : (y : Reply) (b high low res sum : ℕ) (first : List ℕ)
-    → high ≡ cond (eqb y.count 1) b y.high
-    → low ≡ cond (eqb y.count 2) b y.low
-    → res ≡ cond (eqb y.count 3) b y.res
-    → sum ≡ (y.sum + b) % 256
-    → first ≡ cond (is_kept y) (set y.first (y.count - 4) b) y.first
-    → ◌≡◌ {A = Reply} (record { count = y.count + 1; high = high; low = low; res = res; sum = sum; first = first }) (grown y b)
-unfolding grown
-grown_fields y b high low res sum first h l r s f = rw (h, l, r, s, f) refl
 
 -- a judgement, by the tests of the code
 pub judged_tests : (r : Request) (n res first : ℕ) (due : Due) (number : ℕ) (g : Bool) → due ≡ due_for r → number ≡ number_for r

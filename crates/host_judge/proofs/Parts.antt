@@ -1,5 +1,9 @@
 -- The steps in which bytes are taken make what hearing one byte after the other makes. Assumes nothing.
-use Rattle.std.proofs.Common.{◌≡◌, ℕ, suc, ◌+◌, ◌<◌, ◌≤◌, Bool, true, false, cond, not, ◌&&◌, ◌||◌, eqb, ltb, leb, ◌⊎◌, List, [], ◌∷◌, length, get_or, take, drop, refl, ap, ◌∙◌, inl, inr, ⊎_elim, zero-add, add-one, arith, length-drop, drop_of_length-le, length-take-le, drop-cons, ltb-false, ltb-true, eq-eqb, ne_eqb, eqb-true, leb-false, leb-true}
+use Rattle.std.proofs.Common.{◌≡◌, ℕ, Option, Some, None, position, suc, ◌+◌, ◌<◌, ◌≤◌, Bool, true, false, cond, not, ◌&&◌, ◌||◌, eqb, ltb, leb, ◌⊎◌, List, [], ◌∷◌, length, get_or, take, drop, refl, ap, ◌∙◌, inl, inr, ⊎_elim, zero-add, add-one, arith, length-drop, length-take-le, ltb-false, ltb-true, eq-eqb, ne_eqb, eqb-true, leb-false, leb-true}
+use Rattle.std.specs.List.{position_or_len}
+use Rattle.std.specs.Option.{unwrap_or}
+use Rattle.std.proofs.lemmas.Bool.Decides.{nat_tests}
+use Rattle.std.proofs.lemmas.Grind.{common_steps}
 use borrow.Author.Tests.{eqb-false, not-true, not-false}
 use Rattle.packet.specs.declared.Kind.TheVariants.{Data as DataPacket}
 use Rattle.packet.specs.Packet.{start_of, permitted}
@@ -27,20 +31,6 @@ mark_there (b ∷ bytes) h = by (eqb b (start_of DataPacket)) refl h (mark_there
     by true e h later = eqb-true b (start_of DataPacket) e
     by false e h later = later (omega arith)
 
--- it stands here, or further on; behind the bytes it does not stand
-pub mark_here : (bytes : List ℕ) (i : ℕ) → i < length bytes → get_or bytes i 0 ≡ start_of DataPacket → mark_place (drop i bytes) ≡ 0
-unfolding mark_place
-mark_here bytes i h e = rw (drop-cons bytes i 0 h, eq-eqb (get_or bytes i 0) (start_of DataPacket) e) refl
-
-pub mark_further : (bytes : List ℕ) (i : ℕ) → i < length bytes → (get_or bytes i 0 ≡ start_of DataPacket → ⊥)
-    → mark_place (drop i bytes) ≡ suc (mark_place (drop (i + 1) bytes))
-unfolding mark_place
-mark_further bytes i h e = rw (drop-cons bytes i 0 h, ne_eqb (get_or bytes i 0) (start_of DataPacket) e, add-one) refl
-
-pub mark_over : (bytes : List ℕ) (i : ℕ) → length bytes ≤ i → mark_place (drop i bytes) ≡ 0
-unfolding mark_place
-mark_over bytes i h = rw (drop_of_length-le bytes h) refl
-
 -- it stands among the bytes or behind them
 pub mark_within : (bytes : List ℕ) → mark_place bytes ≤ length bytes
 unfolding mark_place
@@ -50,6 +40,28 @@ mark_within (b ∷ bytes) = by (eqb b (start_of DataPacket)) (mark_within bytes)
     by : (t : Bool) → mark_place bytes ≤ length bytes → cond t 0 (suc (mark_place bytes)) ≤ suc (length bytes)
     by true h = omega arith
     by false h = omega arith
+
+-- it is the first that a search finds
+mark_first : (bytes : List ℕ) → position_or_len (λ b. eqb b (start_of DataPacket)) bytes ≡ mark_place bytes
+unfolding mark_place
+mark_first [] = refl
+mark_first (b ∷ bytes) = by (eqb b (start_of DataPacket)) (mark_first bytes)
+  where
+    n : ℕ
+    n = position_or_len (λ b. eqb b (start_of DataPacket)) bytes
+
+    by : (t : Bool) → n ≡ mark_place bytes → cond (not t) (1 + n) 0 ≡ cond t 0 (suc (mark_place bytes))
+    by true e = refl
+    by false e = omega arith
+
+place_or_end : (n m : ℕ) → n ≤ m → unwrap_or (cond (ltb n m) (Some n) None) m ≡ n
+place_or_end n m h = grind (arith, nat_tests, common_steps)
+
+pub mark_found : (bytes : List ℕ) (r : Option ℕ) → r ≡ position (λ b. eqb b (start_of DataPacket)) bytes → unwrap_or r (length bytes) ≡ mark_place bytes
+mark_found bytes r e =
+    let f = mark_first bytes in
+    let w = mark_within bytes in
+    ap (λ (o : Option ℕ). unwrap_or o (length bytes)) e ∙ place_or_end (position_or_len (λ b. eqb b (start_of DataPacket)) bytes) (length bytes) (omega arith) ∙ f
 
 -- one of two tests holds
 either_of : (s t : Bool) → (s || t) ≡ true → (s ≡ true) ⊎ (t ≡ true)

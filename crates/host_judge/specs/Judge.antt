@@ -1,9 +1,10 @@
 -- The judge: what it keeps between two bytes, and what one more byte makes of it.
-use Rattle.std.specs.Prelude.{ℕ, ◌+◌, ◌-◌, ◌%◌, min, Bool, true, false, cond, not, ◌&&◌, List, [], ◌∷◌, replicate, ◌==◌, nat_le, nat_lt, slice_index, slice_set}
+use Rattle.std.specs.Prelude.{ℕ, ◌+◌, ◌-◌, ◌%◌, min, Bool, true, false, cond, not, ◌&&◌, List, [], ◌∷◌, replicate, ◌==◌, nat_le, nat_lt, slice_index, slice_set, Option, Some, None}
 use Rattle.numbers.specs.Bytes.{number}
 use Rattle.packet.specs.declared.Kind.TheVariants.{Data as DataPacket}
 use Rattle.packet.specs.Packet.{start_of, permitted}
 use Rattle.packet_fields.specs.Fields.{four_at}
+use Rattle.profile.specs.declared.Area.{Area as AreaFields}
 use Rattle.profile_bytes.specs.Profile.{area_at}
 use Rattle.host_request.specs.declared.Request.{Request}
 use Rattle.host_request.specs.declared.Request.TheVariants.{Inquiry, Erase, Write, Read, Authenticate, Baud, Signature, Area, WriteData, Next}
@@ -12,10 +13,6 @@ use Rattle.host_judge.specs.declared.Judgement.TheVariants.{Unanswered, Passed, 
 use Rattle.host_judge.specs.declared.Reply.{Reply}
 use Rattle.host_judge.specs.declared.Judge.{Judge}
 use Rattle.host_judge.specs.declared.Taken.{Taken}
-use Rattle.host_judge.specs.declared.Sci.{Sci}
-use Rattle.host_judge.specs.declared.Sci.TheVariants.{Is as SciIs, Unknown as SciUnknown}
-use Rattle.host_judge.specs.declared.Fields.{Fields}
-use Rattle.host_judge.specs.declared.Fields.TheVariants.{Are, Unknown}
 use Rattle.host_judge.specs.Reply.{is_unanswered, judged_by}
 
 -- nothing of a reply yet
@@ -112,29 +109,29 @@ abbrev pub taken_of : Judge → List ℕ → Taken
 taken_of j bytes = taken_by (hearing_of j bytes)
 
 -- what a judge that passed a reply knows from it: of a signature SCI, of an area its fields
-abbrev pub sci_by : Request → List ℕ → Sci
-sci_by Inquiry first = SciUnknown
-sci_by (Erase s e) first = SciUnknown
-sci_by (Write s e) first = SciUnknown
-sci_by (Read s e) first = SciUnknown
-sci_by Authenticate first = SciUnknown
-sci_by (Baud brt) first = SciUnknown
-sci_by Signature first = SciIs (four_at first 0)
-sci_by (Area n) first = SciUnknown
-sci_by WriteData first = SciUnknown
-sci_by (Next left) first = SciUnknown
+abbrev pub sci_by : Request → List ℕ → Option ℕ
+sci_by Inquiry first = None
+sci_by (Erase s e) first = None
+sci_by (Write s e) first = None
+sci_by (Read s e) first = None
+sci_by Authenticate first = None
+sci_by (Baud brt) first = None
+sci_by Signature first = Some (four_at first 0)
+sci_by (Area n) first = None
+sci_by WriteData first = None
+sci_by (Next left) first = None
 
-abbrev pub area_by : Request → List ℕ → Fields
-area_by Inquiry first = Unknown
-area_by (Erase s e) first = Unknown
-area_by (Write s e) first = Unknown
-area_by (Read s e) first = Unknown
-area_by Authenticate first = Unknown
-area_by (Baud brt) first = Unknown
-area_by Signature first = Unknown
-area_by (Area n) first = Are (area_at first 0)
-area_by WriteData first = Unknown
-area_by (Next left) first = Unknown
+abbrev pub area_by : Request → List ℕ → Option AreaFields
+area_by Inquiry first = None
+area_by (Erase s e) first = None
+area_by (Write s e) first = None
+area_by (Read s e) first = None
+area_by Authenticate first = None
+area_by (Baud brt) first = None
+area_by Signature first = None
+area_by (Area n) first = Some (area_at first 0)
+area_by WriteData first = None
+area_by (Next left) first = None
 
 -- any other knows nothing
 abbrev pub is_passed : Judgement → Bool
@@ -143,8 +140,8 @@ is_passed Passed = true
 is_passed (Refused code) = false
 is_passed WrongReply = false
 
-abbrev pub sci_in : Judge → Sci
-sci_in j = cond (is_passed j.judgement) (sci_by j.request j.reply.first) SciUnknown
+abbrev pub sci_in : Judge → Option ℕ
+sci_in j = cond (is_passed j.judgement) (sci_by j.request j.reply.first) None
 
-abbrev pub area_in : Judge → Fields
-area_in j = cond (is_passed j.judgement) (area_by j.request j.reply.first) Unknown
+abbrev pub area_in : Judge → Option AreaFields
+area_in j = cond (is_passed j.judgement) (area_by j.request j.reply.first) None

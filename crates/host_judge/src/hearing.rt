@@ -10,7 +10,7 @@ use host_request::Request;
 pub(crate) fn length(reply: Reply) -> u32
     ensures { (result ≡ length_in reply) × (result ≤ 65535) }
 {
-    reply.high as u32 * 256 + reply.low as u32
+    u16::from_be_bytes([reply.high, reply.low]) as u32
 }
 
 // The place in the reply behind its data.
@@ -18,40 +18,31 @@ pub(crate) fn data_end(reply: Reply) -> usize
     ensures { (result ≡ data_end reply) × (result ≤ 65538) }
 {
     let n = length(reply) as usize;
-    if n == 0 { 4 } else { n + 3 }
+    4 + n.saturating_sub(1)
 }
 
 // Where a place in a reply, of which `count` bytes came, stands among the last `taken` of them.
 pub(crate) fn place(taken: usize, count: usize, at: usize) -> usize
     ensures { result ≡ place_in taken count at }
 {
-    if count < at {
-        return taken;
-    }
-    taken - numbers::lower(taken, count - at)
+    taken.saturating_sub(count.saturating_sub(at))
 }
 
 pub(crate) fn is_unanswered(judgement: Judgement) -> bool
     ensures { result ≡ is_unanswered judgement }
 {
-    match judgement {
-        Judgement::Unanswered => true,
-        Judgement::Passed => false,
-        Judgement::Refused(_) => false,
-        Judgement::WrongReply => false,
-    }
+    matches!(judgement, Judgement::Unanswered)
 }
 
 // A reply of so many bytes, all else as it is.
 pub(crate) fn with_count(reply: Reply, count: u32) -> Reply
     ensures { result ≡ with_count count reply }
 {
-    let mut y = reply;
-    y.count = count;
-    y
+    Reply { count, ..reply }
 }
 
 // Whether a reply grants a request of this number, to which that is due.
+#[tactic(auto, unfolding(crate::specs::Reply::grants))]
 fn is_grant(due: Due, number: u8, n: usize, res: u8, first: u8) -> bool
     ensures { result ≡ grants due number n res first }
 {
@@ -66,6 +57,7 @@ fn is_grant(due: Due, number: u8, n: usize, res: u8, first: u8) -> bool
 }
 
 // What a whole packet says, by its length, RES and the byte behind RES.
+#[tactic(auto, using(crate::proofs::OneByte::judged_tests))]
 fn judge_contents(request: Request, n: usize, res: u8, first: u8) -> Judgement
     ensures { result ≡ judged_by request n res first }
 {

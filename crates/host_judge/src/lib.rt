@@ -11,7 +11,7 @@ ghost use Rattle.host_judge.specs.Judge.{fresh_judge, taken_of, sci_in, area_in}
 use hearing::{data_end, place};
 use host_request::Request;
 use profile::Area;
-use taking::hear;
+use taking::{Hearing, hear};
 
 // What a request was answered.
 #[derive(Clone, Copy)]
@@ -71,29 +71,17 @@ pub struct Taken {
     pub to: usize,
 }
 
-// SCI of a signature, where one was passed.
-#[derive(Clone, Copy)]
-pub enum Sci {
-    Is(u32),
-    Unknown,
-}
-
-// The fields of an area, where one was passed.
-#[derive(Clone, Copy)]
-pub enum Fields {
-    Are(Area),
-    Unknown,
-}
-
 // The paper has no numbers for these; 0 is that nothing was answered.
-pub fn judgement_number(judgement: Judgement) -> u32
-    ensures { (result ≡ judgement_number judgement) × (result ≤ 511) }
-{
-    match judgement {
-        Judgement::Unanswered => 0,
-        Judgement::Passed => 1,
-        Judgement::WrongReply => 2,
-        Judgement::Refused(code) => 256 + code as u32,
+impl From<Judgement> for u32 {
+    ghost from_gives = { λ judgement n. (n ≡ judgement_number judgement) × (n ≤ 511) };
+
+    fn from(judgement: Judgement) -> u32 {
+        match judgement {
+            Judgement::Unanswered => 0,
+            Judgement::Passed => 1,
+            Judgement::WrongReply => 2,
+            Judgement::Refused(code) => 256 + u32::from(code),
+        }
     }
 }
 
@@ -104,17 +92,14 @@ fn read_due(left: usize) -> Due
     if left == 0 {
         return Due::Nothing;
     }
-    Due::Data(numbers::lower(left, packet::LONGEST_DATA))
+    Due::Data(left.min(packet::LONGEST_DATA))
 }
 
 // How many addresses from SAD to EAD.
 fn span(sad: u32, ead: u32) -> usize
     ensures { result ≡ ead + 1 - sad }
 {
-    if ead < sad {
-        return 0;
-    }
-    (ead - sad) as usize + 1
+    (ead as usize + 1).saturating_sub(sad as usize)
 }
 
 // What grants the request.
@@ -122,15 +107,15 @@ pub fn due_to(request: Request) -> Due
     ensures { result ≡ due_for request }
 {
     match request {
-        Request::Inquiry => Due::Status,
-        Request::Erase(_, _) => Due::Status,
-        Request::Write(_, _) => Due::Status,
+        Request::Inquiry
+        | Request::Erase(_, _)
+        | Request::Write(_, _)
+        | Request::Authenticate
+        | Request::Baud(_)
+        | Request::WriteData => Due::Status,
         Request::Read(sad, ead) => read_due(span(sad, ead)),
-        Request::Authenticate => Due::Status,
-        Request::Baud(_) => Due::Status,
         Request::Signature => Due::Data(12),
         Request::Area(_) => Due::Data(17),
-        Request::WriteData => Due::Status,
         Request::Next(left) => read_due(left as usize),
     }
 }
@@ -139,19 +124,17 @@ pub fn due_to(request: Request) -> Due
 pub fn begin(request: Request) -> Judge
     ensures { result ≡ fresh_judge request }
 {
-    let first = [0u8; 17];
-    let reply = Reply {
-        count: 0,
-        high: 0,
-        low: 0,
-        res: 0,
-        sum: 0,
-        first,
-    };
     Judge {
         request,
         judgement: Judgement::Unanswered,
-        reply,
+        reply: Reply {
+            count: 0,
+            high: 0,
+            low: 0,
+            res: 0,
+            sum: 0,
+            first: [0; 17],
+        },
     }
 }
 
@@ -159,47 +142,34 @@ pub fn begin(request: Request) -> Judge
 pub fn take(judge: Judge, bytes: &[u8]) -> Taken
     ensures { result ≡ taken_of judge bytes.now }
 {
-    let heard = hear(judge, bytes);
-    let after = heard.judge;
-    let reply = after.reply;
-    let taken = heard.count;
-    let came = reply.count as usize;
+    let Hearing { judge, count } = hear(judge, bytes);
+    let came = judge.reply.count as usize;
     Taken {
-        judge: after,
-        count: taken,
-        from: place(taken, came, 4),
-        to: place(taken, came, data_end(reply)),
+        judge,
+        count,
+        from: place(count, came, 4),
+        to: place(count, came, data_end(judge.reply)),
     }
 }
 
 // SCI, where the judge passed a signature.
-pub fn passed_sci(judge: Judge) -> Sci
+pub fn passed_sci(judge: Judge) -> Option<u32>
     ensures { result ≡ sci_in judge }
 {
-    let judgement = judge.judgement;
-    let request = judge.request;
-    let Judgement::Passed = judgement else {
-        return Sci::Unknown;
-    };
-    let Request::Signature = request else {
-        return Sci::Unknown;
-    };
-    let reply = judge.reply;
-    Sci::Is(packet_fields::four_at(&reply.first, 0))
+    match (judge.judgement, judge.request) {
+        (Judgement::Passed, Request::Signature) => {
+            Some(packet_fields::four_at(&judge.reply.first, 0))
+        }
+        _ => None,
+    }
 }
 
 // The area, where the judge passed one.
-pub fn passed_area(judge: Judge) -> Fields
+pub fn passed_area(judge: Judge) -> Option<Area>
     ensures { result ≡ area_in judge }
 {
-    let judgement = judge.judgement;
-    let request = judge.request;
-    let Judgement::Passed = judgement else {
-        return Fields::Unknown;
-    };
-    let Request::Area(_) = request else {
-        return Fields::Unknown;
-    };
-    let reply = judge.reply;
-    Fields::Are(profile_bytes::area_of(&reply.first))
+    match (judge.judgement, judge.request) {
+        (Judgement::Passed, Request::Area(_)) => Some(profile_bytes::area_of(&judge.reply.first)),
+        _ => None,
+    }
 }

@@ -1,5 +1,5 @@
 // Replies as they come: byte by byte up to the one behind RES, the rest at once.
-ghost use Rattle.std.specs.Prelude.{◌≡◌, ℕ, ◌+◌, ◌<◌, ◌≤◌, length, if◌then◌else◌};
+ghost use Rattle.std.specs.Prelude.{◌≡◌, ℕ, ◌+◌, ◌<◌, ◌≤◌, length};
 ghost use Rattle.host_judge.specs.Judge.{is_kept, grown};
 ghost use Rattle.host_judge.specs.Runs.{mark_place, began_part, next_part, kept_of, run_added, run_part, hearing_with, HeardBytes};
 
@@ -25,14 +25,10 @@ struct Part {
 fn mark_place(bytes: &[u8]) -> usize
     ensures { (result ≡ mark_place bytes.now) × (result ≤ length bytes.now) }
 {
-    let mut i = 0;
-    while i < bytes.len() {
-        if bytes[i] == 0x81 {
-            return i;
-        }
-        i += 1;
-    }
-    i
+    bytes
+        .iter()
+        .position(|byte| *byte == 0x81)
+        .unwrap_or(bytes.len())
 }
 
 // Before 81h every other byte is skipped.
@@ -57,42 +53,37 @@ fn is_kept(reply: Reply) -> bool
     ensures { result ≡ is_kept reply }
 {
     let at = reply.count as usize;
-    4 <= at && at < numbers::lower(data_end(reply), 21)
-}
-
-// The byte where it belongs here, and the old one elsewhere.
-fn pick(here: bool, byte: u8, old: u8) -> u8
-    ensures { result ≡ (if here then byte else old) }
-{
-    if here { byte } else { old }
+    (4..data_end(reply).min(21)).contains(&at)
 }
 
 // One byte more, of those that SUM counts, at most the one behind RES: it goes where its place says.
+#[tactic(auto, using(crate::proofs::OneByte::none_kept), unfolding(crate::specs::Judge::grown))]
 fn grow(reply: Reply, place: u32, byte: u8) -> Reply
     requires { (reply.count ≡ place) × (place ≤ 4) }
     ensures { result ≡ grown reply byte }
 {
-    let mut first = reply.first;
-    if place == 4 && is_kept(reply) {
-        first[0] = byte;
-    }
-    Reply {
+    let mut grown = Reply {
         count: place + 1,
-        high: pick(place == 1, byte, reply.high),
-        low: pick(place == 2, byte, reply.low),
-        res: pick(place == 3, byte, reply.res),
-        sum: std::num::wrapping_add_u8(reply.sum, byte),
-        first,
+        sum: reply.sum.wrapping_add(byte),
+        ..reply
+    };
+    match place {
+        1 => grown.high = byte,
+        2 => grown.low = byte,
+        3 => grown.res = byte,
+        4 if is_kept(reply) => grown.first[0] = byte,
+        _ => {}
     }
+    grown
 }
 
 // The byte with this place in the reply, if it is the next one and not ETX.
+#[tactic(auto, unfolding(crate::specs::Runs::next_part))]
 fn hear_next(part: Part, bytes: &[u8], place: u32) -> Part
     requires { (1 ≤ place) × (place ≤ 4) }
     ensures { result ≡ next_part place bytes.now part }
 {
-    let reply = part.reply;
-    let taken = part.taken;
+    let Part { reply, taken } = part;
     if bytes.len() <= taken || reply.count != place || length(reply) + 4 <= place {
         return part;
     }
@@ -108,10 +99,10 @@ fn keep(reply: Reply, more: &[u8]) -> [u8; 17]
     ensures { result ≡ kept_of reply more.now }
 {
     let at = reply.count as usize;
-    let end = numbers::lower(data_end(reply), 21);
+    let end = data_end(reply).min(21);
     let mut first = reply.first;
     if at < end {
-        let n = numbers::lower(more.len(), end - at);
+        let n = more.len().min(end - at);
         let from = at - 4;
         let to = from + n;
         numbers::copy(&more[..n], &mut first[from..to]);
@@ -124,26 +115,26 @@ fn add(reply: Reply, more: &[u8]) -> Reply
     requires { (4 ≤ reply.count) × (reply.count + length more.now ≤ 65539) }
     ensures { result ≡ run_added reply more.now }
 {
-    let first = keep(reply, more);
-    let mut y = reply;
-    y.first = first;
-    y.sum = std::num::wrapping_add_u8(y.sum, packet::sum(more));
-    y.count += more.len() as u32;
-    y
+    Reply {
+        count: reply.count + more.len() as u32,
+        sum: reply.sum.wrapping_add(packet::sum(more)),
+        first: keep(reply, more),
+        ..reply
+    }
 }
 
 // All bytes before ETX, from the one behind RES on.
+#[tactic(auto, unfolding(crate::specs::Runs::run_part))]
 fn hear_run(part: Part, bytes: &[u8]) -> Part
     ensures { result ≡ run_part bytes.now part }
 {
-    let reply = part.reply;
-    let taken = part.taken;
+    let Part { reply, taken } = part;
     let at = reply.count as usize;
     let end = length(reply) as usize + 4;
     if bytes.len() <= taken || at < 4 || end <= at {
         return part;
     }
-    let to = taken + numbers::lower(bytes.len() - taken, end - at);
+    let to = taken + (bytes.len() - taken).min(end - at);
     Part {
         reply: add(reply, &bytes[taken..to]),
         taken: to,
@@ -154,12 +145,11 @@ fn hear_run(part: Part, bytes: &[u8]) -> Part
 fn told(judge: Judge, judgement: Judgement, reply: Reply, count: usize) -> Hearing
     ensures { result ≡ hearing_with judge judgement reply count }
 {
-    let request = judge.request;
     Hearing {
         judge: Judge {
-            request,
             judgement,
             reply,
+            ..judge
         },
         count,
     }
@@ -169,8 +159,7 @@ fn told(judge: Judge, judgement: Judgement, reply: Reply, count: usize) -> Heari
 pub(crate) fn hear(judge: Judge, bytes: &[u8]) -> Hearing
     ensures { HeardBytes judge bytes.now result }
 {
-    let judgement = judge.judgement;
-    if !is_unanswered(judgement) {
+    if !is_unanswered(judge.judgement) {
         return Hearing { judge, count: 0 };
     }
     let high = hear_next(begin_part(judge.reply, bytes), bytes, 1);
@@ -179,13 +168,10 @@ pub(crate) fn hear(judge: Judge, bytes: &[u8]) -> Hearing
         return told(judge, Judgement::WrongReply, low.reply, low.taken);
     }
     let status = hear_next(hear_next(low, bytes, 3), bytes, 4);
-    let part = hear_run(status, bytes);
-    let reply = part.reply;
-    let taken = part.taken;
+    let Part { reply, taken } = hear_run(status, bytes);
     if bytes.len() <= taken {
-        return told(judge, judgement, reply, taken);
+        return told(judge, judge.judgement, reply, taken);
     }
-    let request = judge.request;
-    let said = judge_last(request, reply, bytes[taken]);
+    let said = judge_last(judge.request, reply, bytes[taken]);
     told(judge, said, with_count(reply, length(reply) + 5), taken + 1)
 }

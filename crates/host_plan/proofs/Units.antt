@@ -15,9 +15,9 @@ use Rattle.verdict.specs.Check.{NoneApplies}
 use Rattle.packet.specs.Frame.{longest_data}
 use Rattle.host_plan.specs.declared.Plan.{Plan}
 use Rattle.host_plan.specs.declared.Sending.{Sending}
-use Rattle.host_plan.specs.declared.Planned.TheVariants.{Is}
 use Rattle.host_plan.specs.Plan.{plan_checks, size_for, whole_plan, plan_of, sent_up_to, piece_end, command_of, data_of}
 use Rattle.host_plan.specs.Pieces.{SendsAll, nothing_left, one_more, Piece, AllPieces, pieces_joined, InPieces}
+use Rattle.std.specs.Prelude.{Ok}
 use Rattle.host_plan.proofs.Laws.{plan_exactly, command_follows, data_follows, nothing_follows}
 
 -- a number is at most another, or above it
@@ -159,7 +159,7 @@ module _ (s e unit count : ℕ) (n : NoneApplies (plan_checks s e unit count)) w
       }
 
 -- a plan that was made comes to its end in pieces of whole units
-pub pieces_units : (s e unit : ℕ) (bytes : List ℕ) (plan : Plan) → plan_of s e unit (length bytes) ≡ Is plan → InPieces unit plan bytes
+pub pieces_units : (s e unit : ℕ) (bytes : List ℕ) (plan : Plan) → plan_of s e unit (length bytes) ≡ Ok plan → InPieces unit plan bytes
 pieces_units s e unit bytes plan h =
     let t = (plan_exactly s e unit (length bytes) plan).0 h in
     let whole = whole_plan s e unit (length bytes) in

@@ -1,16 +1,15 @@
 -- All that a plan sends: its command, then the data in pieces of whole units.
-use Rattle.std.specs.Prelude.{List, [], ◌∷◌, ◌++◌, ◌≡◌, ℕ, ◌-◌, ◌%◌, ◌≤◌}
+use Rattle.std.specs.Prelude.{List, [], ◌∷◌, ◌++◌, ◌≡◌, ℕ, ◌-◌, ◌%◌, ◌≤◌, Some, None}
 use Rattle.packet.specs.Frame.{longest_data}
 use Rattle.host_request.specs.declared.Request.TheVariants.{WriteData}
 use Rattle.host_plan.specs.declared.Plan.{Plan}
 use Rattle.host_plan.specs.declared.Sending.{Sending}
-use Rattle.host_plan.specs.declared.Following.TheVariants.{Send, Done}
 use Rattle.host_plan.specs.Plan.{command_of, following_of, piece_of}
 
 -- the requests of a plan to its end, in order
 pub data SendsAll : Plan → List Sending → Type 0 where
-  nothing_left : (plan : Plan) → following_of plan ≡ Done → SendsAll plan []
-  one_more : (plan : Plan) (s : Sending) (more : List Sending) → following_of plan ≡ Send s → SendsAll s.rest more → SendsAll plan (s ∷ more)
+  nothing_left : (plan : Plan) → following_of plan ≡ None → SendsAll plan []
+  one_more : (plan : Plan) (s : Sending) (more : List Sending) → following_of plan ≡ Some s → SendsAll s.rest more → SendsAll plan (s ∷ more)
 
 -- a data packet of 1 to 1,024 bytes, whole units
 pub record Piece (unit : ℕ) (s : Sending) : Type 0 where

@@ -1,15 +1,10 @@
 -- Which packets write a range: the command, then its data in packets of whole units.
-use Rattle.std.specs.Prelude.{true, false, not, cond, List, [], ◌∷◌, ℕ, ◌+◌, ◌-◌, ◌*◌, ◌/◌, ◌%◌, min, take, drop, ltb, eqb}
-use Rattle.std.proofs.Math.Option.{Option, none, some}
+use Rattle.std.specs.Prelude.{true, false, not, cond, List, [], ◌∷◌, ℕ, ◌+◌, ◌-◌, ◌*◌, ◌/◌, ◌%◌, min, take, drop, ltb, eqb, Option, None, Some, Result, Ok, Err}
 use Rattle.verdict.specs.Check.{Check, ◌gives◌, first_fault}
 use Rattle.packet.specs.Frame.{longest_data}
 use Rattle.host_request.specs.declared.Request.TheVariants.{Write, WriteData}
 use Rattle.host_plan.specs.declared.Plan.{Plan}
 use Rattle.host_plan.specs.declared.Sending.{Sending}
-use Rattle.host_plan.specs.declared.Following.{Following}
-use Rattle.host_plan.specs.declared.Following.TheVariants.{Send, Done}
-use Rattle.host_plan.specs.declared.Planned.{Planned}
-use Rattle.host_plan.specs.declared.Planned.TheVariants.{Is, Refused}
 use Rattle.host_plan.specs.declared.Unplanned.{Unplanned}
 use Rattle.host_plan.specs.declared.Unplanned.TheVariants.{Reversed, NoUnit, LongUnit, StartUnaligned, EndUnaligned, WrongAmount}
 
@@ -31,11 +26,11 @@ size_for unit = longest_data / unit * unit
 abbrev pub whole_plan : ℕ → ℕ → ℕ → ℕ → Plan
 whole_plan s e unit count = record { sad = s; ead = e; begun = false; size = size_for unit; from = 0; end = count }
 
-abbrev pub planned_by : Option Unplanned → Plan → Planned
-planned_by none plan = Is plan
-planned_by (some why) plan = Refused why
+abbrev pub planned_by : Option Unplanned → Plan → Result Plan Unplanned
+planned_by None plan = Ok plan
+planned_by (Some why) plan = Err why
 
-abbrev pub plan_of : ℕ → ℕ → ℕ → ℕ → Planned
+abbrev pub plan_of : ℕ → ℕ → ℕ → ℕ → Result Plan Unplanned
 plan_of s e unit count = planned_by (first_fault (plan_checks s e unit count)) (whole_plan s e unit count)
 
 -- a plan of which the command was sent, and the data before a place
@@ -55,8 +50,8 @@ abbrev pub data_of : Plan → Sending
 data_of plan = record { request = WriteData; from = plan.from; to = piece_end plan; rest = sent_up_to (piece_end plan) plan }
 
 -- the next request: the command, then the data in order
-unfoldable pub following_of : Plan → Following
-following_of plan = cond (not plan.begun) (Send (command_of plan)) (cond (ltb plan.from plan.end) (Send (data_of plan)) Done)
+unfoldable pub following_of : Plan → Option Sending
+following_of plan = cond (not plan.begun) (Some (command_of plan)) (cond (ltb plan.from plan.end) (Some (data_of plan)) None)
 
 -- the data that goes with a request
 abbrev pub piece_of : Sending → List ℕ → List ℕ

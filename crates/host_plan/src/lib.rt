@@ -29,13 +29,6 @@ pub struct Sending {
     pub rest: Plan,
 }
 
-// What follows.
-#[derive(Clone, Copy)]
-pub enum Following {
-    Send(Sending),
-    Done,
-}
-
 // Why there is no plan.
 #[derive(Clone, Copy)]
 pub enum Unplanned {
@@ -53,13 +46,6 @@ pub enum Unplanned {
     WrongAmount,
 }
 
-// What planning answers.
-#[derive(Clone, Copy)]
-pub enum Planned {
-    Is(Plan),
-    Refused(Unplanned),
-}
-
 // How many bytes a packet of whole units has at most.
 fn size_for(unit: usize) -> usize
     requires { 1 ≤ unit }
@@ -69,30 +55,31 @@ fn size_for(unit: usize) -> usize
 }
 
 // The plan to write `count` bytes from SAD to EAD, into an area with this write unit.
-pub fn plan_write(sad: u32, ead: u32, unit: u32, count: usize) -> Planned
+#[tactic(auto, unfolding(crate::specs::Plan::plan_checks, verdict::specs::Check::first_fault))]
+pub fn plan_write(sad: u32, ead: u32, unit: u32, count: usize) -> Result<Plan, Unplanned>
     ensures { result ≡ plan_of sad ead unit count }
 {
     if ead < sad {
-        return Planned::Refused(Unplanned::Reversed);
+        return Err(Unplanned::Reversed);
     }
     if unit == 0 {
-        return Planned::Refused(Unplanned::NoUnit);
+        return Err(Unplanned::NoUnit);
     }
     let wau = unit as usize;
     if packet::LONGEST_DATA < wau {
-        return Planned::Refused(Unplanned::LongUnit);
+        return Err(Unplanned::LongUnit);
     }
     let behind = ead as usize + 1;
     if sad % unit != 0 {
-        return Planned::Refused(Unplanned::StartUnaligned);
+        return Err(Unplanned::StartUnaligned);
     }
     if behind % wau != 0 {
-        return Planned::Refused(Unplanned::EndUnaligned);
+        return Err(Unplanned::EndUnaligned);
     }
     if count != behind - sad as usize {
-        return Planned::Refused(Unplanned::WrongAmount);
+        return Err(Unplanned::WrongAmount);
     }
-    Planned::Is(Plan {
+    Ok(Plan {
         sad,
         ead,
         begun: false,
@@ -103,28 +90,29 @@ pub fn plan_write(sad: u32, ead: u32, unit: u32, count: usize) -> Planned
 }
 
 // The next request of a plan: first the command, then the data in order.
-pub fn next_request(plan: Plan) -> Following
+#[tactic(auto, unfolding(crate::specs::Plan::following_of))]
+pub fn next_request(plan: Plan) -> Option<Sending>
     ensures { result ≡ following_of plan }
 {
-    let mut rest = plan;
     if !plan.begun {
-        rest.begun = true;
-        return Following::Send(Sending {
+        return Some(Sending {
             request: Request::Write(plan.sad, plan.ead),
             from: plan.from,
             to: plan.from,
-            rest,
+            rest: Plan {
+                begun: true,
+                ..plan
+            },
         });
     }
     if plan.end <= plan.from {
-        return Following::Done;
+        return None;
     }
-    let to = plan.from + numbers::lower(plan.end - plan.from, plan.size);
-    rest.from = to;
-    Following::Send(Sending {
+    let to = plan.from + (plan.end - plan.from).min(plan.size);
+    Some(Sending {
         request: Request::WriteData,
         from: plan.from,
         to,
-        rest,
+        rest: Plan { from: to, ..plan },
     })
 }

@@ -1,7 +1,7 @@
 -- What a reader of a request's packet may rely on: it is whole and good, and what stands in it is what was asked. Assumes nothing.
 use mathlib.Core.Bool.{true, false}
 use mathlib.Core.List.{List, [], ◌∷◌, ◌++◌, append_assoc, append-nil}
-use mathlib.Core.Option.{none}
+use Rattle.std.specs.Prelude.{None}
 use mathlib.Core.Path.{◌≡◌, refl, sym, ap, ◌∙◌}
 use Prim.Native.Nat.{ℕ, ◌+◌, ◌<◌}
 use native.Mathlib.Omega.{arith}
@@ -26,7 +26,7 @@ use Rattle.host_request.specs.declared.Request.TheVariants.{Inquiry, Erase, Writ
 use Rattle.host_request.specs.Request.{com_for, number_for, kind_for, information_for, contents_for, packet_for, enclosable, has_nothing_left, request_checks}
 use Rattle.host_request.proofs.Laws.{contents_permitted}
 
-module _ (r : Request) (count : ℕ) (buildable : first_fault (request_checks r count) ≡ none) where
+module _ (r : Request) (count : ℕ) (buildable : first_fault (request_checks r count) ≡ None) where
   -- a request that can be built has as many bytes lent as it may have
   pub buildable_lent : enclosable r count ≡ true
   unfolding request_checks NoneApplies
@@ -105,7 +105,7 @@ module _ (r : Request) (bytes : List ℕ) where
   packet_area n e = ap (λ (l : List ℕ). get_or (l ++ lack (counted (contents_for r bytes)) ∷ 0x03 ∷ []) 0 0) e
 
 -- a request that can be built
-module _ (r : Request) (bytes : List ℕ) (buildable : first_fault (request_checks r (length bytes)) ≡ none) where
+module _ (r : Request) (bytes : List ℕ) (buildable : first_fault (request_checks r (length bytes)) ≡ None) where
   -- its kind permits what it holds
   permits : permitted (kind_for r) (length (contents_for r bytes)) ≡ true
   permits = contents_permitted r bytes (buildable_lent r (length bytes) buildable)
@@ -139,7 +139,7 @@ information_length WriteData bytes e k = impossible (cc)
 information_length (Next left) bytes e k = impossible (cc)
 
 -- so neither an unknown command nor a wrong length ever applies to it
-pub packet_command : (r : Request) (bytes : List ℕ) → first_fault (request_checks r (length bytes)) ≡ none → kind_for r ≡ Command
+pub packet_command : (r : Request) (bytes : List ℕ) → first_fault (request_checks r (length bytes)) ≡ None → kind_for r ≡ Command
     → (com_of (code_at (packet_for r bytes)) ≡ com_for r) × (info_count (packet_for r bytes) ≡ info_length (com_for r))
 packet_command r bytes buildable k =
     (packet_com r bytes, packet_count r bytes ∙ information_length r bytes (buildable_lent r (length bytes) buildable) k)

@@ -1,7 +1,7 @@
 -- A request's packet tells the request and the bytes that were lent with it, all but how much of a read is left. Assumes nothing.
 use mathlib.Core.Bool.{true, cond}
 use mathlib.Core.List.{List, []}
-use mathlib.Core.Option.{none}
+use Rattle.std.specs.Prelude.{None}
 use mathlib.Core.Path.{◌≡◌, refl, sym, ap, ◌∙◌}
 use Prim.Native.Nat.{ℕ, ◌<◌}
 use lib.ListN.{length, take, drop, get_or}
@@ -97,6 +97,6 @@ module _ (r r' : Request) (bytes bytes' : List ℕ) (same : packet_for r bytes �
   same_request w w' = sym (asks_back r bytes w) ∙ read_same asks ∙ asks_back r' bytes' w'
 
   -- and have the same bytes lent with them, where both can be built
-  pub same_lent : first_fault (request_checks r (length bytes)) ≡ none → first_fault (request_checks r' (length bytes')) ≡ none → bytes ≡ bytes'
+  pub same_lent : first_fault (request_checks r (length bytes)) ≡ None → first_fault (request_checks r' (length bytes')) ≡ None → bytes ≡ bytes'
   same_lent b b' =
       lends_back r bytes (buildable_lent r (length bytes) b) ∙ read_same lends ∙ sym (lends_back r' bytes' (buildable_lent r' (length bytes') b'))

@@ -1,7 +1,7 @@
 -- What a stored ID is, and what a granted code is: the total-erase code where bit 126 permits it, or the latched ID. Assumes nothing.
 use mathlib.Core.List.{List, ◌++◌}
 use mathlib.Core.Bool.{Bool, true, false, ◌||◌}
-use mathlib.Core.Option.{none}
+use Rattle.std.specs.Prelude.{None, Option, Some}
 use mathlib.Core.Path.{◌≡◌, refl, sym, ap, ◌∙◌}
 use Prim.Native.Nat.{ℕ, ◌+◌, ◌≤◌}
 use native.Mathlib.Omega.{arith}
@@ -12,8 +12,6 @@ use Rattle.verdict.specs.Check.{first_fault, NoneApplies}
 use Rattle.verdict.proofs.FirstFault.{clear}
 use Rattle.profile.specs.declared.Area.{Area}
 use Rattle.profile.specs.declared.Spot.{Spot}
-use Rattle.profile.specs.declared.Place.{Place}
-use Rattle.profile.specs.declared.Place.TheVariants.{In, Nowhere}
 use Rattle.numbers.specs.Same.{same}
 use Rattle.numbers.proofs.Same.{same_eq}
 use Rattle.numbers.proofs.There.{entry_there}
@@ -24,14 +22,14 @@ pub id_length : (areas : List Area) (image : List ℕ) → length (id_of areas i
 unfolding id_of id_at
 id_length areas image = at (config_from 0 areas)
   where
-    at : (place : Place) → length (id_at place image) ≡ 16
-    at Nowhere = refl
-    at (In spot) =
+    at : (place : Option Spot) → length (id_at place image) ≡ 16
+    at None = refl
+    at (Some spot) =
         let enough : 16 ≤ length (drop spot.base image ++ no_id) = rw length-append (omega arith) in
         length-take-le 16 (drop spot.base image ++ no_id) enough
 
 -- an image that is long enough has them all
-pub id_whole : (spot : Spot) (image : List ℕ) → spot.base + 16 ≤ length image → id_at (In spot) image ≡ take 16 (drop spot.base image)
+pub id_whole : (spot : Spot) (image : List ℕ) → spot.base + 16 ≤ length image → id_at (Some spot) image ≡ take 16 (drop spot.base image)
 unfolding id_at
 id_whole spot image h =
     let enough : 16 ≤ length (drop spot.base image) = rw length-drop (omega arith) in
@@ -51,7 +49,7 @@ pub record Admitted (id code : List ℕ) : Type 0 where
   pub unlocked : bit127 id ≡ true
   pub known : (total_erase id code || same code id) ≡ true
 
-pub admitted : (id code : List ℕ) → first_fault (id_checks id code) ≡ none → Admitted id code
+pub admitted : (id code : List ℕ) → first_fault (id_checks id code) ≡ None → Admitted id code
 unfolding id_checks NoneApplies
 admitted id code g =
     let n = clear (id_checks id code) g in
@@ -63,7 +61,7 @@ either true t e f = let z : ◌≡◌ {A = ℕ} 0 1 = cc in absurd (omega arith)
 either false t e f = e
 
 -- the total-erase code is never granted as an ID, only as a total erase
-pub erase_granted : (id code : List ℕ) → first_fault (id_checks id code) ≡ none → same code erase_code ≡ true → total_erase id code ≡ true
+pub erase_granted : (id code : List ℕ) → first_fault (id_checks id code) ≡ None → same code erase_code ≡ true → total_erase id code ≡ true
 erase_granted id code g e = by (total_erase id code) refl
   where
     by : (t : Bool) → total_erase id code ≡ t → t ≡ true
@@ -74,7 +72,7 @@ erase_granted id code g e = by (total_erase id code) refl
         sym (erase_unset code e) ∙ ap bit127 k ∙ a.unlocked
 
 -- any other code that is granted is the latched ID
-pub id_granted : (id code : List ℕ) → first_fault (id_checks id code) ≡ none → same code erase_code ≡ false → code ≡ id
+pub id_granted : (id code : List ℕ) → first_fault (id_checks id code) ≡ None → same code erase_code ≡ false → code ≡ id
 unfolding total_erase
 id_granted id code g e =
     let a = admitted id code g in

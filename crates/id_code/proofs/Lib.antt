@@ -1,3 +1,3 @@
-pub mod Search
-pub mod Padded
 pub mod Codes
+pub mod Padded
+pub mod Search

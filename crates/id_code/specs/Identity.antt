@@ -1,26 +1,26 @@
 -- The ID code: the first 16 config bytes, in sending order; sixteen FFh bytes mean that none is stored.
-use Rattle.std.specs.Prelude.{Bool, ◌&&◌, ◌||◌, not, cond, List, [], ◌∷◌, ◌++◌, ◌≡◌, ℕ, ◌+◌, ◌%◌, ◌≤◌, take, drop, get_or, replicate, leb, eqb}
+use Rattle.std.specs.Prelude.{Bool, ◌&&◌, ◌||◌, not, cond, List, [], ◌∷◌, ◌++◌, ◌≡◌, ℕ, ◌+◌, ◌%◌, take, drop, get_or, replicate, leb, eqb, Option, Some, None}
 use Rattle.verdict.specs.declared.Reason.{Reason}
 use Rattle.verdict.specs.declared.Reason.TheVariants.{Locked, OtherId}
 use Rattle.verdict.specs.Check.{Check, ◌gives◌}
 use Rattle.profile.specs.declared.Area.{Area}
-use Rattle.profile.specs.declared.Place.{Place}
-use Rattle.profile.specs.declared.Place.TheVariants.{In, Nowhere}
 use Rattle.profile.specs.Areas.{size_of}
+use Rattle.profile.specs.Places.{PlacedBelow}
+use Rattle.profile.specs.declared.Spot.{Spot}
 use Rattle.numbers.specs.Same.{same}
 
 -- the first config area; base is the place of the first area's first byte
-unfoldable pub config_from : ℕ → List Area → Place
-config_from base [] = Nowhere
-config_from base (a ∷ more) = cond (eqb a.koa 2) (In (record { area = a; base = base })) (config_from (base + size_of a) more)
+unfoldable pub config_from : ℕ → List Area → Option Spot
+config_from base [] = None
+config_from base (a ∷ more) = cond (eqb a.koa 2) (Some (record { area = a; base = base })) (config_from (base + size_of a) more)
 
 abbrev pub no_id : List ℕ
 no_id = replicate 16 0xFF
 
 -- FFh stands for what an image lacks; it never decides: device_steps, proofs/Defaults, `id_there`
-unfoldable pub id_at : Place → List ℕ → List ℕ
-id_at Nowhere image = no_id
-id_at (In spot) image = take 16 (drop spot.base image ++ no_id)
+unfoldable pub id_at : Option Spot → List ℕ → List ℕ
+id_at None image = no_id
+id_at (Some spot) image = take 16 (drop spot.base image ++ no_id)
 
 unfoldable pub id_of : List Area → List ℕ → List ℕ
 id_of areas image = id_at (config_from 0 areas) image
@@ -48,10 +48,6 @@ unfoldable pub id_checks : List ℕ → List ℕ → List (Check Reason)
 id_checks id code = (not (bit127 id) gives Locked) ∷ (not (total_erase id code || same code id) gives OtherId) ∷ []
 
 -- the config area that was found, and the bound of its place
-abbrev pub PlacedBelow : Place → Type 0
-PlacedBelow (In spot) = spot.base ≤ 34359738368
-PlacedBelow Nowhere = Unit {0}
-
-pub record Configured (areas : List Area) (r : Place) : Type 0 where
+pub record Configured (areas : List Area) (r : Option Spot) : Type 0 where
   pub is : r ≡ config_from 0 areas
   pub bound : PlacedBelow r

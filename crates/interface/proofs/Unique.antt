@@ -10,11 +10,10 @@ use borrow.Author.Tests.{eqb-true, leb-true, leb-false}
 use Rattle.verdict.proofs.OneAnswer.{one_answer}
 use Rattle.packet.specs.Packet.{good, payload_of, payload_at}
 use Rattle.packet.proofs.Contents.{payload_short, payload_none, payload_at_part, payload_there}
-use Rattle.device_calls.specs.declared.Refusal.{Refusal}
-use Rattle.device_calls.specs.declared.Refusal.TheVariants.{Accepted, By}
-use Rattle.device_calls.specs.Calls.{is_accepted}
+use Rattle.device_calls.specs.Calls.{is_accepted, Refusal}
 use Rattle.device_steps.specs.Feed.{Delivery}
 use Rattle.interface.specs.Calls.{LentBytes}
+use Rattle.std.specs.Prelude.{Ok, Err}
 use Rattle.interface.specs.Post.{Numbers, StartedBytes, ResetBytes, FedBytes, Handed}
 
 -- starting and resetting: the same number and the same bytes
@@ -37,7 +36,7 @@ pub record Same (d : Delivery) (after after' : LentBytes) (r r' : Numbers) : Typ
 module _ (d : Delivery) (input : List ℕ) (before : LentBytes) where
   pub fed_once : (row : Refusal) (after after' : LentBytes) (r r' : Numbers) → FedBytes row d input before after r → FedBytes row d input before after' r'
       → Same d after after' r r'
-  fed_once Accepted after after' r r' a b =
+  fed_once (Ok tt) after after' r r' a b =
       record {
         numbers = one_answer a.is b.is;
         state = one_answer a.state b.state;
@@ -45,7 +44,7 @@ module _ (d : Delivery) (input : List ℕ) (before : LentBytes) where
         held = one_answer a.held b.held;
         reply = one_answer a.reply b.reply;
       }
-  fed_once (By row) after after' r r' a b =
+  fed_once (Err row) after after' r r' a b =
       let e : after ≡ after' = one_answer a.lent b.lent in
       record {
         numbers = one_answer a.is b.is;
@@ -58,13 +57,13 @@ module _ (d : Delivery) (input : List ℕ) (before : LentBytes) where
   -- a refused feed leaves the whole receive buffer, and so does empty input
   pub refused_received : (row : Refusal) (after : LentBytes) (r : Numbers) → is_accepted row ≡ false → FedBytes row d input before after r
       → after.receive ≡ before.receive
-  refused_received Accepted after r e a = let z : ◌≡◌ {A = ℕ} 0 1 = cc in absurd (omega arith)
-  refused_received (By row) after r e a = ap (λ (l : LentBytes). l.receive) a.lent
+  refused_received (Ok tt) after r e a = let z : ◌≡◌ {A = ℕ} 0 1 = cc in absurd (omega arith)
+  refused_received (Err row) after r e a = ap (λ (l : LentBytes). l.receive) a.lent
 
   pub idle_received : (row : Refusal) (after : LentBytes) (r : Numbers) → length input ≡ 0 → FedBytes row d input before after r
       → after.receive ≡ before.receive
-  idle_received Accepted after r e a = a.idle e
-  idle_received (By row) after r e a = ap (λ (l : LentBytes). l.receive) a.lent
+  idle_received (Ok tt) after r e a = a.idle e
+  idle_received (Err row) after r e a = ap (λ (l : LentBytes). l.receive) a.lent
 
 -- where a payload stands
 pub handed_once : (receive : List ℕ) (n r r' from from' got got' : ℕ) → Handed receive n r from got → Handed receive n r' from' got'

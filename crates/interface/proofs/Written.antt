@@ -10,23 +10,20 @@ use Rattle.verdict.specs.Check.{first_fault}
 use Rattle.profile.specs.declared.Profile.{Profile}
 use Rattle.state.specs.declared.Stage.{Stage}
 use Rattle.state.specs.declared.State.{State}
-use Rattle.state_bytes.specs.declared.StageIn.{StageIn}
-use Rattle.state_bytes.specs.declared.StageIn.TheVariants.{Is, NoStage}
 use Rattle.profile_bytes.specs.Profile.{profile_in}
 use Rattle.state_bytes.specs.State.{state_length, stage_in, state_with, state_by, state_bytes, state_over}
 use Rattle.device.specs.declared.Fed.{Fed}
 use Rattle.state.specs.State.{zero_state}
 use Rattle.device_calls.specs.declared.Row.{Row}
 use Rattle.device_calls.specs.declared.Row.TheVariants.{Unacceptable, WrongImage, WrongState, ShortReceive, ShortReply}
-use Rattle.device_calls.specs.declared.Refusal.{Refusal}
-use Rattle.device_calls.specs.declared.Refusal.TheVariants.{Accepted, By}
 use Rattle.device_calls.specs.declared.Started.{Started}
-use Rattle.device_calls.specs.Calls.{Lent, buffers, row_number, number_of, start_rows, feed_rows, refusal_of, feed_refusal, started_at, started_by}
+use Rattle.device_calls.specs.Calls.{Lent, buffers, row_number, number_of, start_rows, feed_rows, refusal_of, feed_refusal, started_at, started_by, Refusal}
 use Rattle.device_steps.specs.Step.{machine_of}
 use Rattle.device_steps.specs.Feed.{Delivery, feed_of}
 use Rattle.device.specs.Post.{FedBy, Feeds}
 use Rattle.interface.specs.Calls.{LentBytes, bytes, state_rows, feeding_rows, starting_refusal, feeding_refusal}
 use Rattle.interface.specs.Post.{Numbers, numbers, StartedBytes, ResetBytes, reset_over, FedBytes, FeedsBytes, state_or, delivery_of}
+use Rattle.std.specs.Prelude.{Option, Some, None, Ok, Err}
 use Rattle.interface.proofs.Refusals.{accepted_room, feed_no_state, nowhere_refused}
 
 always : (t : Bool) → (t || true) ≡ true
@@ -57,8 +54,8 @@ module _ (profile : List ℕ) (n : ℕ) (before after : List ℕ)
   left_by : (row : Refusal) → starting_refusal profile n (length before) ≡ row
       → after ≡ cond (eqb (number_of row) 0 || false) (state_over (started_at row (profile_in profile) zero_state) before) before
       → after ≡ reset_over row (profile_in profile) before
-  left_by Accepted a w = let t = eq-eqb (length before) state_length (accepted_room profile n (length before) a) in w ∙ simp t
-  left_by (By row) a w = w ∙ simp (no_zero row)
+  left_by (Ok tt) a w = let t = eq-eqb (length before) state_length (accepted_room profile n (length before) a) in w ∙ simp t
+  left_by (Err row) a w = w ∙ simp (no_zero row)
 
   pub was_reset : after ≡ cond (eqb number 0 || false) (state_over begun.state before) before → ResetBytes profile n before after number
   was_reset w =
@@ -94,7 +91,7 @@ module _ (p : Profile) (st : State) (input : List ℕ) (before after : Lent) (fe
     (w : state ≡ cond (eqb number 0 || false) (state_over fed.state state₀) state₀) where
   by : (row : Refusal) (d : Delivery) → FedBy row d input st before after fed
       → FedBytes row d input (beside before state₀) (beside after state) (numbers number fed.consumed fed.count)
-  by Accepted d f =
+  by (Ok tt) d f =
       let z : number ≡ 0 = m ∙ ap (λ (x : Fed). number_of x.refusal) f.is in
       let t = eq-eqb (length state₀) state_length h in
       let over : state_over fed.state state₀ ≡ state_bytes fed.state = simp t in
@@ -106,7 +103,7 @@ module _ (p : Profile) (st : State) (input : List ℕ) (before after : Lent) (fe
         reply = f.reply;
         idle = f.idle;
       }
-  by (By row) d f =
+  by (Err row) d f =
       let z : number ≡ row_number row = m ∙ ap (λ (x : Fed). number_of x.refusal) f.is in
       let same : state ≡ state₀ = w ∙ simp (z, no_zero row) in
       record {
@@ -120,11 +117,11 @@ module _ (p : Profile) (st : State) (input : List ℕ) (before after : Lent) (fe
 
 -- feeding
 module _ (profile input : List ℕ) (before : LentBytes) where
-  refused_by : (r : ℕ) (row : Refusal) (d : Delivery) → (row ≡ Accepted → ⊥) → r ≡ number_of row → FedBytes row d input before before (numbers r 0 0)
-  refused_by r Accepted d a m = absurd (a refl)
-  refused_by r (By row) d a m = record { is = numbers_are m refl refl; lent = refl }
+  refused_by : (r : ℕ) (row : Refusal) (d : Delivery) → (row ≡ Ok tt → ⊥) → r ≡ number_of row → FedBytes row d input before before (numbers r 0 0)
+  refused_by r (Ok tt) d a m = absurd (a refl)
+  refused_by r (Err row) d a m = record { is = numbers_are m refl refl; lent = refl }
 
-  pub fed_no_state : stage_in before.state ≡ NoStage
+  pub fed_no_state : stage_in before.state ≡ None
       → (begun : Started) → begun ≡ started_by (starting_refusal profile (length before.image) 0) (profile_in profile) zero_state
       → (r : ℕ) → r ≡ number_of begun.refusal → FeedsBytes profile input before before (numbers r 0 0)
   fed_no_state h begun b r m =
@@ -134,11 +131,11 @@ module _ (profile input : List ℕ) (before : LentBytes) where
       (m ∙ ap (λ (x : Started). number_of x.refusal) b ∙ ap number_of (sym e))
 
   -- the device's feed with the profile and the state that the bytes are
-  module _ (p : Profile) (q : p ≡ profile_in profile) (stage : Stage) (e : stage_in before.state ≡ Is stage)
+  module _ (p : Profile) (q : p ≡ profile_in profile) (stage : Stage) (e : stage_in before.state ≡ Some stage)
       (st : State) (f : st ≡ state_with before.state stage) (after : LentBytes) (r : Numbers) where
     pub fed_both : FedState p st input before after r → FeedsBytes profile input before after r
     unfolding feeding_rows feed_rows
     fed_both a =
-        subst (λ (s : StageIn). FedBytes (refusal_of (first_fault (start_rows (profile_in profile) (length before.image) ++ state_rows (profile_in profile) (state_by before.state s) before.receive (length before.reply))))
+        subst (λ (s : Option Stage). FedBytes (refusal_of (first_fault (start_rows (profile_in profile) (length before.image) ++ state_rows (profile_in profile) (state_by before.state s) before.receive (length before.reply))))
         (feed_of (profile_in profile) (machine_of (state_or (state_by before.state s)) (without before)) input) input before after r) (sym e)
         (subst (λ (x : State). FedState (profile_in profile) x input before after r) f (subst (λ (x : Profile). FedState x st input before after r) q a))

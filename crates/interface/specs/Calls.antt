@@ -1,6 +1,5 @@
 -- Which calls from outside are refused, with which number: the rows of the protocol, with bytes for profile and state.
-use Rattle.std.specs.Prelude.{true, not, List, [], ◌∷◌, ◌++◌, ℕ, length, eqb}
-use Rattle.std.proofs.Math.Option.{Option, none, some}
+use Rattle.std.specs.Prelude.{true, not, List, [], ◌∷◌, ◌++◌, ℕ, length, eqb, Option, None, Some}
 use Rattle.verdict.specs.Check.{Check, ◌gives◌, first_fault}
 use Rattle.profile.specs.declared.Profile.{Profile}
 use Rattle.state.specs.declared.State.{State}
@@ -8,8 +7,7 @@ use Rattle.profile_bytes.specs.Profile.{profile_in}
 use Rattle.state_bytes.specs.State.{state_length, state_in}
 use Rattle.device_calls.specs.declared.Row.{Row}
 use Rattle.device_calls.specs.declared.Row.TheVariants.{WrongState}
-use Rattle.device_calls.specs.declared.Refusal.{Refusal}
-use Rattle.device_calls.specs.Calls.{start_rows, buffer_rows, refusal_of}
+use Rattle.device_calls.specs.Calls.{start_rows, buffer_rows, refusal_of, Refusal}
 
 -- the bytes that a call from outside is lent
 pub record LentBytes : Type 0 where
@@ -27,8 +25,8 @@ starting_rows profile n k = start_rows (profile_in profile) n ++ (not (eqb k sta
 
 -- bytes that are no state do not fit
 abbrev pub state_rows : Profile → Option State → List ℕ → ℕ → List (Check Row)
-state_rows p none receive room = (true gives WrongState) ∷ []
-state_rows p (some st) receive room = buffer_rows p st receive room
+state_rows p None receive room = (true gives WrongState) ∷ []
+state_rows p (Some st) receive room = buffer_rows p st receive room
 
 unfoldable pub feeding_rows : List ℕ → LentBytes → List (Check Row)
 feeding_rows profile l =

@@ -1,6 +1,5 @@
 -- What a call from outside leaves in the bytes that were lent, and the numbers that it answers, by name.
-use Rattle.std.specs.Prelude.{cond, List, ◌≡◌, ℕ, length, take, eqb}
-use Rattle.std.proofs.Math.Option.{Option, none, some}
+use Rattle.std.specs.Prelude.{cond, List, ◌≡◌, ℕ, length, take, eqb, Option, None, Some, Ok, Err}
 use Rattle.profile.specs.declared.Profile.{Profile}
 use Rattle.packet.specs.Packet.{payload_of}
 use Rattle.packet.specs.Frame.{front}
@@ -9,9 +8,7 @@ use Rattle.state.specs.State.{fresh_state, zero_state}
 use Rattle.profile_bytes.specs.Profile.{profile_in}
 use Rattle.state_bytes.specs.State.{state_in, state_bytes, state_over}
 use Rattle.device_calls.specs.declared.Row.{Row}
-use Rattle.device_calls.specs.declared.Refusal.{Refusal}
-use Rattle.device_calls.specs.declared.Refusal.TheVariants.{Accepted, By}
-use Rattle.device_calls.specs.Calls.{buffers, row_number, number_of, started_at}
+use Rattle.device_calls.specs.Calls.{buffers, row_number, number_of, started_at, Refusal}
 use Rattle.device_steps.specs.Step.{machine_of}
 use Rattle.device_steps.specs.Feed.{Delivery, feed_of}
 use Rattle.interface.specs.Calls.{LentBytes, starting_refusal, feeding_refusal}
@@ -32,8 +29,8 @@ pub record StartedBytes (profile : List ℕ) (n : ℕ) (before after : List ℕ)
 
 -- resetting: a refused one leaves the bytes
 abbrev pub reset_over : Refusal → Profile → List ℕ → List ℕ
-reset_over Accepted p before = state_bytes (fresh_state p)
-reset_over (By row) p before = before
+reset_over (Ok tt) p before = state_bytes (fresh_state p)
+reset_over (Err row) p before = before
 
 pub record ResetBytes (profile : List ℕ) (n : ℕ) (before after : List ℕ) (r : ℕ) : Type 0 where
   pub number : r ≡ number_of (starting_refusal profile n (length before))
@@ -41,8 +38,8 @@ pub record ResetBytes (profile : List ℕ) (n : ℕ) (before after : List ℕ) (
 
 -- the state in the bytes; the zero state stands for none, and never decides: proofs/Refusals, `state_there`
 abbrev pub state_or : Option State → State
-state_or none = zero_state
-state_or (some st) = st
+state_or None = zero_state
+state_or (Some st) = st
 
 -- the delivery that the bytes ask for
 abbrev pub delivery_of : List ℕ → LentBytes → List ℕ → Delivery
@@ -64,8 +61,8 @@ pub record UnfedBytes (row : Row) (before after : LentBytes) (r : Numbers) : Typ
   pub lent : after ≡ before
 
 abbrev pub FedBytes : Refusal → Delivery → List ℕ → LentBytes → LentBytes → Numbers → Type 0
-FedBytes Accepted d input before after r = RanBytes d input before after r
-FedBytes (By row) d input before after r = UnfedBytes row before after r
+FedBytes (Ok tt) d input before after r = RanBytes d input before after r
+FedBytes (Err row) d input before after r = UnfedBytes row before after r
 
 -- what feeding promises
 abbrev pub FeedsBytes : List ℕ → List ℕ → LentBytes → LentBytes → Numbers → Type 0

@@ -11,23 +11,22 @@ ghost use Rattle.device_steps.specs.Feed.{feed_of};
 ghost use Rattle.interface.specs.Calls.{bytes, starting_refusal};
 ghost use Rattle.interface.specs.Post.{numbers, StartedBytes, ResetBytes, FedBytes, FeedsBytes, Handed};
 
-use device::{Refusal, Row, Started};
+use device::{Row, Started};
 use profile::Profile;
 use state::State;
-use state_bytes::{STATE_LENGTH, StageIn};
+use state_bytes::STATE_LENGTH;
 
 // Why a start with a profile's bytes and `room` bytes for the state is refused, and the state that it gives.
 fn begin(profile: &[u8], image: &[u8], room: usize) -> Started
     ensures { result ≡ started_by (starting_refusal profile.now (length image.now) room) (profile_in profile.now) zero_state }
 {
     let begun = device::start(profile_bytes::profile_in(profile), image);
-    let refusal = begun.refusal;
-    if !device::is_accepted(refusal) {
+    if !device::is_accepted(begun.refusal) {
         return begun;
     }
     if room != STATE_LENGTH {
         return Started {
-            refusal: Refusal::By(Row::WrongState),
+            refusal: Err(Row::WrongState),
             state: state::zero(),
         };
     }
@@ -38,12 +37,9 @@ fn begin(profile: &[u8], image: &[u8], room: usize) -> Started
 fn put(state: &mut [u8], given: State, number: u8, always: bool)
     ensures { state.new ≡ cond (eqb number 0 || always) (state_over given state.old) state.old }
 {
-    if number != 0 {
-        if !always {
-            return;
-        }
+    if number == 0 || always {
+        state_bytes::put_state(state, given);
     }
-    state_bytes::put_state(state, given);
 }
 
 // A fresh state for a profile and an image; a refused start leaves the zero state.
@@ -52,10 +48,8 @@ pub extern "C" fn indraveck_start(profile: &[u8], image: &[u8], state: &mut [u8]
     ensures { StartedBytes profile.now (length image.now) state.old state.new result }
 {
     let begun = begin(profile, image, state.len());
-    let first = begun.state;
-    let refusal = begun.refusal;
-    let number = device::number(refusal);
-    put(state, first, number, true);
+    let number = device::number(begun.refusal);
+    put(state, begun.state, number, true);
     number as u32
 }
 
@@ -65,10 +59,8 @@ pub extern "C" fn indraveck_reset(profile: &[u8], image: &[u8], state: &mut [u8]
     ensures { ResetBytes profile.now (length image.now) state.old state.new result }
 {
     let begun = begin(profile, image, state.len());
-    let again = begun.state;
-    let refusal = begun.refusal;
-    let number = device::number(refusal);
-    put(state, again, number, false);
+    let number = device::number(begun.refusal);
+    put(state, begun.state, number, false);
     number as u32
 }
 
@@ -92,10 +84,8 @@ fn feed_state(
         (numbers result consumed.new sent.new) }
 {
     let fed = device::feed(p, image, st, receive, reply, input);
-    let refusal = fed.refusal;
-    let number = device::number(refusal);
-    let next = fed.state;
-    put(state, next, number, false);
+    let number = device::number(fed.refusal);
+    put(state, fed.state, number, false);
     *consumed = fed.consumed as u64;
     *sent = fed.count as u64;
     number as u32
@@ -118,16 +108,13 @@ pub extern "C" fn indraveck_feed(
         (bytes image.new state.new receive.new reply.new)
         (numbers result consumed.new sent.new) }
 {
-    let found = state_bytes::stage_in(state);
-    match found {
-        StageIn::NoStage => {
+    match state_bytes::stage_in(state) {
+        None => {
             *consumed = 0;
             *sent = 0;
-            let begun = begin(profile, image, 0);
-            let refusal = begun.refusal;
-            device::number(refusal) as u32
+            device::number(begin(profile, image, 0).refusal) as u32
         }
-        StageIn::Is(stage) => {
+        Some(stage) => {
             let p = profile_bytes::profile_in(profile);
             let st = state_bytes::state_in(state, stage);
             feed_state(p, image, state, st, receive, reply, input, consumed, sent)
@@ -147,7 +134,7 @@ pub extern "C" fn indraveck_payload(
 {
     let part = packet::payload(receive, count);
     *size = part.len() as u64;
-    if part.len() == 0 {
+    if part.is_empty() {
         *start = 0;
         return 0;
     }

@@ -9,37 +9,36 @@ use lib.ListN.{length}
 use lib.Dec.{eqb}
 use borrow.Author.Tests.{eqb-true, eqb-false}
 use Rattle.host_request.specs.declared.Request.{Request}
-use Rattle.host_bytes.specs.declared.RequestIn.{RequestIn}
-use Rattle.host_bytes.specs.declared.RequestIn.TheVariants.{Is as IsRequest, NoRequest}
 use Rattle.host_bytes.specs.Requests.{request_in}
 use Rattle.host_bytes.specs.Judges.{judge_length}
 use Rattle.interface_host.specs.Post.{no_request_number, begins_number, begins_over, BeginsBytes}
+use Rattle.std.specs.Prelude.{Option, Some, None}
 use Rattle.interface_host.specs.Told.{BeginsAs}
 
 -- what was begun, by its number
 module _ (request first second : ℕ) (before after : List ℕ) (r : ℕ) (told : BeginsBytes request first second before after r) where
   -- either a fresh judge was written; or it was not, for one of two reasons, and the bytes stay
-  begun_by : {P : Type 0} → (request_in request first second ≡ NoRequest → r ≡ 5 → after ≡ before → P)
-      → ((q : Request) → request_in request first second ≡ IsRequest q → (length before ≡ judge_length → ⊥) → r ≡ 6 → after ≡ before → P)
+  begun_by : {P : Type 0} → (request_in request first second ≡ None → r ≡ 5 → after ≡ before → P)
+      → ((q : Request) → request_in request first second ≡ Some q → (length before ≡ judge_length → ⊥) → r ≡ 6 → after ≡ before → P)
       → (BeginsAs request first second before after → r ≡ 1 → P) → P
   begun_by {P} unasked unfit begun = by (request_in request first second) refl
     where
-      within : (q : Request) → request_in request first second ≡ IsRequest q → (t : Bool) → eqb (length before) judge_length ≡ t → P
+      within : (q : Request) → request_in request first second ≡ Some q → (t : Bool) → eqb (length before) judge_length ≡ t → P
       within q e true t =
           begun (record {
             asked = q;
             is = e;
             whole = eqb-true (length before) judge_length t;
-            leaves = rw t at (told.leaves ∙ ap (λ (y : RequestIn). begins_over y before) e);
-          }) (rw t at (told.number ∙ ap (λ (y : RequestIn). begins_number y before) e))
+            leaves = rw t at (told.leaves ∙ ap (λ (y : Option Request). begins_over y before) e);
+          }) (rw t at (told.number ∙ ap (λ (y : Option Request). begins_number y before) e))
       within q e false t =
-          unfit q e (eqb-false (length before) judge_length t) (rw t at (told.number ∙ ap (λ (y : RequestIn). begins_number y before) e))
-          (rw t at (told.leaves ∙ ap (λ (y : RequestIn). begins_over y before) e))
+          unfit q e (eqb-false (length before) judge_length t) (rw t at (told.number ∙ ap (λ (y : Option Request). begins_number y before) e))
+          (rw t at (told.leaves ∙ ap (λ (y : Option Request). begins_over y before) e))
 
-      by : (x : RequestIn) → request_in request first second ≡ x → P
-      by NoRequest e =
-          unasked e (told.number ∙ ap (λ (y : RequestIn). begins_number y before) e) (told.leaves ∙ ap (λ (y : RequestIn). begins_over y before) e)
-      by (IsRequest q) e = within q e (eqb (length before) judge_length) refl
+      by : (x : Option Request) → request_in request first second ≡ x → P
+      by None e =
+          unasked e (told.number ∙ ap (λ (y : Option Request). begins_number y before) e) (told.leaves ∙ ap (λ (y : Option Request). begins_over y before) e)
+      by (Some q) e = within q e (eqb (length before) judge_length) refl
 
   -- 1 exactly where a judge was begun
   pub begun_told : (r ≡ 1) ↔ BeginsAs request first second before after
@@ -48,14 +47,14 @@ module _ (request first second : ℕ) (before after : List ℕ) (r : ℕ) (told 
     λ h. begun_by (λ e _ _. clash (sym h.is ∙ e)) (λ _ _ n _ _. absurd (n h.whole)) (λ _ n. n),
   )
     where
-      clash : {P : Type 0} {q : Request} → IsRequest q ≡ NoRequest → P
+      clash : {P : Type 0} {q : Request} → Some q ≡ None → P
       clash e = let z : ◌≡◌ {A = ℕ} 0 1 = cc in absurd (omega arith)
 
   -- 5 exactly where the numbers are no request
-  pub begun_unasked_told : (r ≡ no_request_number) ↔ (request_in request first second ≡ NoRequest)
+  pub begun_unasked_told : (r ≡ no_request_number) ↔ (request_in request first second ≡ None)
   begun_unasked_told = (
     λ e. begun_by (λ k _ _. k) (λ _ _ _ n _. absurd (omega arith)) (λ _ n. absurd (omega arith)),
-    λ e. told.number ∙ ap (λ (y : RequestIn). begins_number y before) e,
+    λ e. told.number ∙ ap (λ (y : Option Request). begins_number y before) e,
   )
 
   -- where none was begun the bytes stay

@@ -2,7 +2,7 @@
 use mathlib.Core.Bool.{cond}
 use mathlib.Core.List.{List}
 use mathlib.Core.Logic.{◌↔◌}
-use mathlib.Core.Option.{Option, none, some}
+use Rattle.std.specs.Prelude.{Option, None, Some, Result, Ok, Err}
 use mathlib.Core.Path.{◌≡◌, refl, sym, ap, subst, ◌∙◌}
 use Prim.Native.Nat.{ℕ, ◌<◌}
 use native.Mathlib.Omega.{arith}
@@ -10,8 +10,6 @@ use lib.Dec.{eqb}
 use Rattle.verdict.proofs.OneAnswer.{one_answer}
 use Rattle.host_request.specs.declared.Unbuilt.{Unbuilt}
 use Rattle.host_request.specs.declared.Unbuilt.TheVariants.{WrongAmount, NothingLeft, NoRoom}
-use Rattle.host_request.specs.declared.Built.{Built}
-use Rattle.host_request.specs.declared.Built.TheVariants.{Is, Refused as NotBuilt}
 use Rattle.host_request.specs.Request.{packet_for}
 use Rattle.host_request.specs.Build.{unbuilt, built_by}
 use Rattle.host_request.proofs.Outcome.{unbuilt_leaves}
@@ -21,13 +19,10 @@ use Rattle.host_judge.specs.declared.Judge.{Judge}
 use Rattle.host_judge.specs.Reply.{judgement_number}
 use Rattle.host_judge.specs.Judge.{taken_of}
 use Rattle.host_judge.proofs.Exactly.{judgement_one_number}
-use Rattle.host_bytes.specs.declared.RequestIn.{RequestIn}
-use Rattle.host_bytes.specs.declared.RequestIn.TheVariants.{Is as IsRequest, NoRequest}
-use Rattle.host_bytes.specs.declared.HeadIn.{HeadIn}
-use Rattle.host_bytes.specs.declared.HeadIn.TheVariants.{Is as IsJudge, NoJudge}
 use Rattle.host_bytes.specs.Requests.{request_in}
 use Rattle.host_bytes.specs.Judges.{head_in, judge_by, judge_in}
 use Rattle.interface_host.specs.Post.{unbuilt_number, built_number, built_length, no_request_number, no_judge_number, builds_number, builds_length, builds_over, BuildsBytes, BeginsBytes, takes_number, TakesBytes, verdict_by, verdict_number}
+use Rattle.host_request.specs.declared.Request.{Request}
 use Rattle.interface_host.specs.Told.{BuildsAs, JudgeHas}
 
 -- one outcome of building
@@ -74,75 +69,75 @@ unbuilt_once why other e = sym (back why) ∙ ap named e ∙ back other
 module _ (request first second : ℕ) (bytes before after : List ℕ) (r count : ℕ)
     (told : BuildsBytes request first second bytes before after r count) where
   -- either the numbers are no request, or building the one that they are gave an answer
-  built_by_lem : {P : Type 0} → (request_in request first second ≡ NoRequest → r ≡ 5 → (count ≡ 0) × (after ≡ before) → P)
-      → ((x : Built) → BuildsAs request first second bytes before after x → r ≡ built_number x → count ≡ built_length x → P) → P
+  built_by_lem : {P : Type 0} → (request_in request first second ≡ None → r ≡ 5 → (count ≡ 0) × (after ≡ before) → P)
+      → ((x : Result ℕ Unbuilt) → BuildsAs request first second bytes before after x → r ≡ built_number x → count ≡ built_length x → P) → P
   built_by_lem {P} unasked asked = by (request_in request first second) refl
     where
-      by : (x : RequestIn) → request_in request first second ≡ x → P
-      by NoRequest e =
-          unasked e (told.number ∙ ap (λ (y : RequestIn). builds_number y bytes before) e) (
-            told.amount ∙ ap (λ (y : RequestIn). builds_length y bytes before) e,
-            told.leaves ∙ ap (λ (y : RequestIn). builds_over y bytes before) e,
+      by : (x : Option Request) → request_in request first second ≡ x → P
+      by None e =
+          unasked e (told.number ∙ ap (λ (y : Option Request). builds_number y bytes before) e) (
+            told.amount ∙ ap (λ (y : Option Request). builds_length y bytes before) e,
+            told.leaves ∙ ap (λ (y : Option Request). builds_over y bytes before) e,
           )
-      by (IsRequest q) e =
+      by (Some q) e =
           asked
           (built_by (unbuilt q bytes before) (packet_for q bytes))
           (record {
             asked = q;
             is = e;
-            builds = record { answers = refl; leaves = told.leaves ∙ ap (λ (y : RequestIn). builds_over y bytes before) e };
+            builds = record { answers = refl; leaves = told.leaves ∙ ap (λ (y : Option Request). builds_over y bytes before) e };
           })
-          (told.number ∙ ap (λ (y : RequestIn). builds_number y bytes before) e)
-          (told.amount ∙ ap (λ (y : RequestIn). builds_length y bytes before) e)
+          (told.number ∙ ap (λ (y : Option Request). builds_number y bytes before) e)
+          (told.amount ∙ ap (λ (y : Option Request). builds_length y bytes before) e)
 
   -- the number is that of the answer
-  number_as : (x : Built) → BuildsAs request first second bytes before after x → r ≡ built_number x
-  number_as x h = told.number ∙ ap (λ (y : RequestIn). builds_number y bytes before) h.is ∙ ap built_number (sym h.builds.answers)
+  number_as : (x : Result ℕ Unbuilt) → BuildsAs request first second bytes before after x → r ≡ built_number x
+  number_as x h = told.number ∙ ap (λ (y : Option Request). builds_number y bytes before) h.is ∙ ap built_number (sym h.builds.answers)
 
   -- 1 exactly where the packet was built, in so many bytes
-  pub built_told : (r ≡ 1) ↔ BuildsAs request first second bytes before after (Is count)
-  built_told = (λ e. built_by_lem (λ _ n _. absurd (omega arith)) (by e), number_as (Is count))
+  pub built_told : (r ≡ 1) ↔ BuildsAs request first second bytes before after (Ok count)
+  built_told = (λ e. built_by_lem (λ _ n _. absurd (omega arith)) (by e), number_as (Ok count))
     where
-      by : r ≡ 1 → (x : Built) → BuildsAs request first second bytes before after x → r ≡ built_number x → count ≡ built_length x
-          → BuildsAs request first second bytes before after (Is count)
-      by e (Is n) h k m = subst (λ (x : ℕ). BuildsAs request first second bytes before after (Is x)) (sym m) h
-      by e (NotBuilt why) h k m = absurd (omega (arith, unbuilt_between why))
+      by : r ≡ 1 → (x : Result ℕ Unbuilt) → BuildsAs request first second bytes before after x → r ≡ built_number x → count ≡ built_length x
+          → BuildsAs request first second bytes before after (Ok count)
+      by e (Ok n) h k m = subst (λ (x : ℕ). BuildsAs request first second bytes before after (Ok x)) (sym m) h
+      by e (Err why) h k m = absurd (omega (arith, unbuilt_between why))
 
   -- 2, 3 and 4 exactly where it was not, each for its reason
-  pub unbuilt_told : (why : Unbuilt) → (r ≡ unbuilt_number why) ↔ BuildsAs request first second bytes before after (NotBuilt why)
-  unbuilt_told why = (λ e. built_by_lem (λ _ n _. absurd (omega (arith, unbuilt_between why))) (by e), number_as (NotBuilt why))
+  pub unbuilt_told : (why : Unbuilt) → (r ≡ unbuilt_number why) ↔ BuildsAs request first second bytes before after (Err why)
+  unbuilt_told why = (λ e. built_by_lem (λ _ n _. absurd (omega (arith, unbuilt_between why))) (by e), number_as (Err why))
     where
-      by : r ≡ unbuilt_number why → (x : Built) → BuildsAs request first second bytes before after x → r ≡ built_number x → count ≡ built_length x
-          → BuildsAs request first second bytes before after (NotBuilt why)
-      by e (Is n) h k m = absurd (omega (arith, unbuilt_between why))
-      by e (NotBuilt other) h k m =
-          subst (λ (w : Unbuilt). BuildsAs request first second bytes before after (NotBuilt w)) (unbuilt_once other why (sym k ∙ e)) h
+      by : r ≡ unbuilt_number why → (x : Result ℕ Unbuilt) → BuildsAs request first second bytes before after x → r ≡ built_number x → count ≡ built_length x
+          → BuildsAs request first second bytes before after (Err why)
+      by e (Ok n) h k m = absurd (omega (arith, unbuilt_between why))
+      by e (Err other) h k m =
+          subst (λ (w : Unbuilt). BuildsAs request first second bytes before after (Err w)) (unbuilt_once other why (sym k ∙ e)) h
 
   -- 5 exactly where the numbers are no request
-  pub unasked_told : (r ≡ no_request_number) ↔ (request_in request first second ≡ NoRequest)
-  unasked_told = (λ e. built_by_lem (λ k _ _. k) (by e), λ e. told.number ∙ ap (λ (y : RequestIn). builds_number y bytes before) e)
+  pub unasked_told : (r ≡ no_request_number) ↔ (request_in request first second ≡ None)
+  unasked_told = (λ e. built_by_lem (λ k _ _. k) (by e), λ e. told.number ∙ ap (λ (y : Option Request). builds_number y bytes before) e)
     where
-      by : r ≡ 5 → (x : Built) → BuildsAs request first second bytes before after x → r ≡ built_number x → count ≡ built_length x
-          → request_in request first second ≡ NoRequest
-      by e (Is n) h k m = absurd (omega arith)
-      by e (NotBuilt why) h k m = absurd (omega (arith, unbuilt_between why))
+      by : r ≡ 5 → (x : Result ℕ Unbuilt) → BuildsAs request first second bytes before after x → r ≡ built_number x → count ≡ built_length x
+          → request_in request first second ≡ None
+      by e (Ok n) h k m = absurd (omega arith)
+      by e (Err why) h k m = absurd (omega (arith, unbuilt_between why))
 
   -- where nothing was built the length is 0 and the buffer stays
   pub unbuilt_stays : (r ≡ 1 → ⊥) → (count ≡ 0) × (after ≡ before)
   unbuilt_stays none-built = built_by_lem (λ _ _ stays. stays) by
     where
-      by : (x : Built) → BuildsAs request first second bytes before after x → r ≡ built_number x → count ≡ built_length x
+      by : (x : Result ℕ Unbuilt) → BuildsAs request first second bytes before after x → r ≡ built_number x → count ≡ built_length x
           → (count ≡ 0) × (after ≡ before)
-      by (Is n) h k m = absurd (none-built k)
-      by (NotBuilt why) h k m = (m, unbuilt_leaves h.asked bytes before after (NotBuilt why) h.builds why refl)
+      by (Ok n) h k m = absurd (none-built k)
+      by (Err why) h k m = (m, unbuilt_leaves h.asked bytes before after (Err why) h.builds why refl)
 
   -- never 0
   pub building_answered : 0 < r
   building_answered = built_by_lem (λ _ n _. omega arith) by
     where
-      by : (x : Built) → BuildsAs request first second bytes before after x → r ≡ built_number x → count ≡ built_length x → 0 < r
-      by (Is n) h k m = omega arith
-      by (NotBuilt why) h k m = omega (arith, unbuilt_between why)
+      by : (x : Result ℕ Unbuilt) → BuildsAs request first second bytes before after x → r ≡ built_number x → count ≡ built_length x → 0 < r
+      by (Ok n) h k m = omega arith
+      by (Err why) h k m = omega (arith, unbuilt_between why)
 
 -- no verdict's number is that of bytes that are no judge
 verdict_apart : (v : Judgement) → judgement_number v ≡ no_judge_number → ⊥
@@ -153,8 +148,8 @@ verdict_apart WrongReply e = omega arith
 
 -- a number for that verdict of what the bytes are
 abbrev number_by : (Judge → Judgement) → Option Judge → ℕ
-number_by verdict none = no_judge_number
-number_by verdict (some j) = judgement_number (verdict j)
+number_by verdict None = no_judge_number
+number_by verdict (Some j) = judgement_number (verdict j)
 
 module _ (verdict : Judge → Judgement) (bs : List ℕ) (r : ℕ) (number : r ≡ number_by verdict (judge_in bs)) where
   -- is a verdict's exactly where the bytes are a judge with it
@@ -162,32 +157,32 @@ module _ (verdict : Judge → Judgement) (bs : List ℕ) (r : ℕ) (number : r �
   number_of v = (λ e. by (judge_in bs) refl (sym number ∙ e), λ h. number ∙ ap (number_by verdict) h.there ∙ ap judgement_number h.has)
     where
       by : (x : Option Judge) → judge_in bs ≡ x → number_by verdict x ≡ judgement_number v → JudgeHas verdict bs v
-      by none e k = absurd (verdict_apart v (sym k))
-      by (some j) e k = record { judge = j; there = e; has = judgement_one_number (verdict j) v k }
+      by None e k = absurd (verdict_apart v (sym k))
+      by (Some j) e k = record { judge = j; there = e; has = judgement_one_number (verdict j) v k }
 
   -- and 3 exactly where they are none
-  number_none : (r ≡ no_judge_number) ↔ (judge_in bs ≡ none)
+  number_none : (r ≡ no_judge_number) ↔ (judge_in bs ≡ None)
   number_none = (λ e. by (judge_in bs) (sym number ∙ e), λ e. number ∙ ap (number_by verdict) e)
     where
-      by : (x : Option Judge) → number_by verdict x ≡ no_judge_number → x ≡ none
-      by none k = refl
-      by (some j) k = absurd (verdict_apart (verdict j) k)
+      by : (x : Option Judge) → number_by verdict x ≡ no_judge_number → x ≡ None
+      by None k = refl
+      by (Some j) k = absurd (verdict_apart (verdict j) k)
 
 -- asking: the verdict of the judge in the bytes
 module _ (bs : List ℕ) where
   asks : verdict_number bs ≡ number_by (λ j. j.judgement) (judge_in bs)
   asks = by (head_in bs)
     where
-      by : (x : HeadIn) → verdict_by x ≡ number_by (λ j. j.judgement) (judge_by bs x)
-      by NoJudge = refl
-      by (IsJudge q v) = refl
+      by : (x : Option (Request × Judgement)) → verdict_by x ≡ number_by (λ j. j.judgement) (judge_by bs x)
+      by None = refl
+      by (Some (q, v)) = refl
 
   -- 0 exactly of an unanswered judge, 1 of a passed one, 2 of a wrong reply, 256 and the code of a refusal
   pub verdict_told : (v : Judgement) → (verdict_number bs ≡ judgement_number v) ↔ JudgeHas (λ j. j.judgement) bs v
   verdict_told = number_of (λ j. j.judgement) bs (verdict_number bs) asks
 
   -- 3 exactly of bytes that are no judge
-  pub unjudged_told : (verdict_number bs ≡ no_judge_number) ↔ (judge_in bs ≡ none)
+  pub unjudged_told : (verdict_number bs ≡ no_judge_number) ↔ (judge_in bs ≡ None)
   unjudged_told = number_none (λ j. j.judgement) bs (verdict_number bs) asks
 
 -- taking: the verdict behind the bytes
@@ -195,14 +190,14 @@ module _ (bytes before after : List ℕ) (r taken from to : ℕ) (told : TakesBy
   takes : r ≡ number_by (λ j. (taken_of j bytes).judge.judgement) (judge_in before)
   takes = told.number ∙ by (head_in before)
     where
-      by : (x : HeadIn) → takes_number x bytes before ≡ number_by (λ j. (taken_of j bytes).judge.judgement) (judge_by before x)
-      by NoJudge = refl
-      by (IsJudge q v) = refl
+      by : (x : Option (Request × Judgement)) → takes_number x bytes before ≡ number_by (λ j. (taken_of j bytes).judge.judgement) (judge_by before x)
+      by None = refl
+      by (Some (q, v)) = refl
 
   -- the same numbers, of the judge behind the bytes
   pub taken_told : (v : Judgement) → (r ≡ judgement_number v) ↔ JudgeHas (λ j. (taken_of j bytes).judge.judgement) before v
   taken_told = number_of (λ j. (taken_of j bytes).judge.judgement) before r takes
 
   -- 3 exactly where the bytes were no judge
-  pub untaken_told : (r ≡ no_judge_number) ↔ (judge_in before ≡ none)
+  pub untaken_told : (r ≡ no_judge_number) ↔ (judge_in before ≡ None)
   untaken_told = number_none (λ j. (taken_of j bytes).judge.judgement) before r takes

@@ -2,32 +2,19 @@
 #![tactic(auto)]
 
 ghost use Rattle.std.specs.Prelude.{◌≡◌};
-ghost use Rattle.interface_host.specs.Post.{built_number, built_length, BuildsBytes, BeginsBytes, TakesBytes, verdict_number};
+ghost use Rattle.interface_host.specs.Post.{built_number, BuildsBytes, BeginsBytes, TakesBytes, verdict_number};
 
-use host_bytes::{HeadIn, RequestIn};
-use host_request::{Built, Unbuilt};
+use host_request::Unbuilt;
 
-// That the packet was built, or why not; never 0.
-fn built_number(built: Built) -> u32
+// That the packet was built, or why not; never 0. No From: the answer is std's Result.
+fn built_number(built: Result<usize, Unbuilt>) -> u32
     ensures { result ≡ built_number built }
 {
-    let Built::Refused(why) = built else {
-        return 1;
-    };
-    match why {
-        Unbuilt::WrongAmount => 2,
-        Unbuilt::NothingLeft => 3,
-        Unbuilt::NoRoom => 4,
-    }
-}
-
-// How many bytes the packet has; 0 where there is none.
-fn built_length(built: Built) -> usize
-    ensures { result ≡ built_length built }
-{
     match built {
-        Built::Is(n) => n,
-        Built::Refused(_) => 0,
+        Ok(_) => 1,
+        Err(Unbuilt::WrongAmount) => 2,
+        Err(Unbuilt::NothingLeft) => 3,
+        Err(Unbuilt::NoRoom) => 4,
     }
 }
 
@@ -44,12 +31,11 @@ pub extern "C" fn indraveck_build(
     ensures { BuildsBytes request first second bytes.now buffer.old buffer.new result length.new }
 {
     *length = 0;
-    let asked = host_bytes::request_of(request, first, second);
-    let RequestIn::Is(which) = asked else {
+    let Some(which) = host_bytes::request_of(request, first, second) else {
         return 5;
     };
     let built = host_request::build(buffer, which, bytes);
-    *length = built_length(built) as u64;
+    *length = built.unwrap_or(0) as u64;
     built_number(built)
 }
 
@@ -63,8 +49,7 @@ pub extern "C" fn indraveck_judge_begin(
 ) -> u32
     ensures { BeginsBytes request first second judge.old judge.new result }
 {
-    let asked = host_bytes::request_of(request, first, second);
-    let RequestIn::Is(which) = asked else {
+    let Some(which) = host_bytes::request_of(request, first, second) else {
         return 5;
     };
     if judge.len() != host_bytes::JUDGE_LENGTH {
@@ -89,19 +74,16 @@ pub extern "C" fn indraveck_judge_take(
     *taken = 0;
     *from = 0;
     *to = 0;
-    let head = host_bytes::head_in(judge);
-    let HeadIn::Is(request, judgement) = head else {
+    let Some((request, judgement)) = host_bytes::head_in(judge) else {
         return 3;
     };
     let before = host_bytes::judge_in(judge, request, judgement);
     let got = host_judge::take(before, bytes);
-    let after = got.judge;
-    let said = after.judgement;
-    host_bytes::put_judge(judge, after);
+    host_bytes::put_judge(judge, got.judge);
     *taken = got.count as u64;
     *from = got.from as u64;
     *to = got.to as u64;
-    host_judge::judgement_number(said)
+    u32::from(got.judge.judgement)
 }
 
 // A judge's verdict: 0 unanswered, 1 passed, 2 wrong reply, 256 and the status code refused; of bytes that are no judge 3.
@@ -109,9 +91,8 @@ pub extern "C" fn indraveck_judge_take(
 pub extern "C" fn indraveck_judge_verdict(judge: &[u8]) -> u32
     ensures { result ≡ verdict_number judge.now }
 {
-    let head = host_bytes::head_in(judge);
-    let HeadIn::Is(_, judgement) = head else {
+    let Some((_, judgement)) = host_bytes::head_in(judge) else {
         return 3;
     };
-    host_judge::judgement_number(judgement)
+    u32::from(judgement)
 }

@@ -6,18 +6,17 @@ use native.Mathlib.Omega.{arith}
 use Rattle.verdict.proofs.OneAnswer.{one_answer}
 use Rattle.recording.specs.declared.Direction.{Direction}
 use Rattle.recording.specs.declared.Direction.TheVariants.{Host, Device, Reset}
-use Rattle.recording.specs.declared.Directed.{Directed}
-use Rattle.recording.specs.declared.Directed.TheVariants.{Known, Unknown}
 use Rattle.recording.specs.declared.Fault.TheVariants.{BadDirection}
 use Rattle.recording.specs.Format.{direction_number, directed_of, fault_number}
 use Rattle.recording.proofs.Laws.{directed_number}
-use Rattle.record_writer.specs.declared.Written.{Written}
 use Rattle.record_writer.specs.Writing.{Wrote}
 use Rattle.record_writer.proofs.Laws.{direction_refused}
+use Rattle.std.specs.Prelude.{Option, Result, Some, None}
+use Rattle.recording.specs.declared.Fault.{Fault}
 use Rattle.interface_record.specs.Post.{written_number, place_by, ReadsBytes, WritesBytes}
 
 -- from what the writer answered
-pub written_bytes : (direction at : ℕ) (bytes before after : List ℕ) (w : Written) → Wrote direction at bytes before after w
+pub written_bytes : (direction at : ℕ) (bytes before after : List ℕ) (w : Result ℕ Fault) → Wrote direction at bytes before after w
     → (r to : ℕ) → r ≡ written_number w → to ≡ place_by at w → WritesBytes direction at bytes before after r to
 written_bytes direction at bytes before after w wrote r to a b =
     record {
@@ -27,7 +26,7 @@ written_bytes direction at bytes before after w wrote r to a b =
     }
 
 -- a number that is no byte is no direction
-no_byte : (n : ℕ) → 255 < n → directed_of n ≡ Unknown
+no_byte : (n : ℕ) → 255 < n → directed_of n ≡ None
 no_byte n h = by (directed_of n) refl
   where
     low : (d : Direction) → direction_number d ≤ 255
@@ -35,9 +34,9 @@ no_byte n h = by (directed_of n) refl
     low Device = omega arith
     low Reset = omega arith
 
-    by : (x : Directed) → directed_of n ≡ x → x ≡ Unknown
-    by (Known d) e = absurd (omega (arith, low d, directed_number n d e))
-    by Unknown e = refl
+    by : (x : Option Direction) → directed_of n ≡ x → x ≡ None
+    by (Some d) e = absurd (omega (arith, low d, directed_number n d e))
+    by None e = refl
 
 pub number_refused : (direction at : ℕ) (bytes before : List ℕ) → 255 < direction → (r to : ℕ) → r ≡ fault_number BadDirection → to ≡ at
     → WritesBytes direction at bytes before before r to

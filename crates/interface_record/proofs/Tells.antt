@@ -14,9 +14,8 @@ use Rattle.recording.specs.Recording.{found_at, end_number, found_number}
 use Rattle.recording.proofs.Laws.{direction_once}
 use Rattle.recording.proofs.Exactly.{end_exactly}
 use Rattle.recording.proofs.Numbers.{fault_once, fault_positive, fault_below, direction_above, found_positive}
-use Rattle.record_writer.specs.declared.Written.{Written}
-use Rattle.record_writer.specs.declared.Written.TheVariants.{Behind, Refused as NotWritten}
 use Rattle.record_writer.specs.Writing.{Wrote, written_of}
+use Rattle.std.specs.Prelude.{Result, Ok, Err}
 use Rattle.interface_record.specs.Post.{part_by, ReadsBytes, written_number, place_by, WritesBytes}
 
 -- what was found, by its number
@@ -66,24 +65,24 @@ module _ (recording : List ℕ) (at r from to : ℕ) (told : ReadsBytes recordin
 
 -- what was written, by its number
 module _ (direction at : ℕ) (bytes before after : List ℕ) (r to : ℕ) (told : WritesBytes direction at bytes before after r to) where
-  wrote : (w : Written) → written_of direction at bytes before ≡ w → Wrote direction at bytes before after w
+  wrote : (w : Result ℕ Fault) → written_of direction at bytes before ≡ w → Wrote direction at bytes before after w
   wrote w e = record { answers = sym e; leaves = told.leaves }
 
-  pub written_told : (r ≡ 7) ↔ Wrote direction at bytes before after (Behind to)
+  pub written_told : (r ≡ 7) ↔ Wrote direction at bytes before after (Ok to)
   written_told = (λ e. by (written_of direction at bytes before) refl e, λ h. told.number ∙ ap written_number (sym h.answers))
     where
-      by : (w : Written) → written_of direction at bytes before ≡ w → r ≡ 7 → Wrote direction at bytes before after (Behind to)
-      by (Behind n) e k = wrote (Behind to) (e ∙ ap Behind (sym (told.behind ∙ ap (place_by at) e)))
-      by (NotWritten f) e k = let n : r ≡ fault_number f = told.number ∙ ap written_number e in absurd (omega (arith, fault_below f))
+      by : (w : Result ℕ Fault) → written_of direction at bytes before ≡ w → r ≡ 7 → Wrote direction at bytes before after (Ok to)
+      by (Ok n) e k = wrote (Ok to) (e ∙ ap Ok (sym (told.behind ∙ ap (place_by at) e)))
+      by (Err f) e k = let n : r ≡ fault_number f = told.number ∙ ap written_number e in absurd (omega (arith, fault_below f))
 
-  pub unwritten_told : (f : Fault) → (r ≡ fault_number f) ↔ Wrote direction at bytes before after (NotWritten f)
+  pub unwritten_told : (f : Fault) → (r ≡ fault_number f) ↔ Wrote direction at bytes before after (Err f)
   unwritten_told f = (λ e. by (written_of direction at bytes before) refl e, λ h. told.number ∙ ap written_number (sym h.answers))
     where
-      by : (w : Written) → written_of direction at bytes before ≡ w → r ≡ fault_number f → Wrote direction at bytes before after (NotWritten f)
-      by (Behind n) e k = let m : r ≡ 7 = told.number ∙ ap written_number e in absurd (omega (arith, fault_below f))
-      by (NotWritten g) e k =
+      by : (w : Result ℕ Fault) → written_of direction at bytes before ≡ w → r ≡ fault_number f → Wrote direction at bytes before after (Err f)
+      by (Ok n) e k = let m : r ≡ 7 = told.number ∙ ap written_number e in absurd (omega (arith, fault_below f))
+      by (Err g) e k =
           let n : r ≡ fault_number g = told.number ∙ ap written_number e in
-          wrote (NotWritten f) (e ∙ ap NotWritten (fault_once g f (sym n ∙ k)))
+          wrote (Err f) (e ∙ ap Err (fault_once g f (sym n ∙ k)))
 
   -- where it was not written the place stays
   pub written_place : (f : Fault) → r ≡ fault_number f → to ≡ at
@@ -92,6 +91,6 @@ module _ (direction at : ℕ) (bytes before after : List ℕ) (r to : ℕ) (told
   pub writing_answered : 0 < r
   writing_answered = by (written_of direction at bytes before) refl
     where
-      by : (w : Written) → written_of direction at bytes before ≡ w → 0 < r
-      by (Behind n) e = let m : r ≡ 7 = told.number ∙ ap written_number e in omega arith
-      by (NotWritten f) e = let m : r ≡ fault_number f = told.number ∙ ap written_number e in omega (arith, fault_positive f)
+      by : (w : Result ℕ Fault) → written_of direction at bytes before ≡ w → 0 < r
+      by (Ok n) e = let m : r ≡ 7 = told.number ∙ ap written_number e in omega arith
+      by (Err f) e = let m : r ≡ fault_number f = told.number ∙ ap written_number e in omega (arith, fault_positive f)

@@ -1,12 +1,11 @@
 -- What reading and writing a record from outside leave, by name.
-use Rattle.std.specs.Prelude.{List, ◌≡◌, ℕ}
+use Rattle.std.specs.Prelude.{List, ◌≡◌, ℕ, Result, Ok, Err}
 use Rattle.recording.specs.declared.Part.{Part}
 use Rattle.recording.specs.declared.Found.{Found}
 use Rattle.recording.specs.declared.Found.TheVariants.{Is, End, Refused}
 use Rattle.recording.specs.Format.{fault_number}
 use Rattle.recording.specs.Recording.{found_at, found_number}
-use Rattle.record_writer.specs.declared.Written.{Written}
-use Rattle.record_writer.specs.declared.Written.TheVariants.{Behind, Refused as NotWritten}
+use Rattle.recording.specs.declared.Fault.{Fault}
 use Rattle.record_writer.specs.Writing.{written_of, left_of}
 
 -- the record's part; where there is no record, an empty one at the place
@@ -21,14 +20,14 @@ pub record ReadsBytes (recording : List ℕ) (at r from to : ℕ) : Type 0 where
   pub behind : to ≡ (part_by at (found_at recording at)).to
 
 -- that the record was written, or why not
-abbrev pub written_number : Written → ℕ
-written_number (Behind to) = 7
-written_number (NotWritten fault) = fault_number fault
+abbrev pub written_number : Result ℕ Fault → ℕ
+written_number (Ok to) = 7
+written_number (Err fault) = fault_number fault
 
 -- the place behind the record; where it was not written, its own
-abbrev pub place_by : ℕ → Written → ℕ
-place_by at (Behind to) = to
-place_by at (NotWritten fault) = at
+abbrev pub place_by : ℕ → Result ℕ Fault → ℕ
+place_by at (Ok to) = to
+place_by at (Err fault) = at
 
 pub record WritesBytes (direction at : ℕ) (bytes before after : List ℕ) (r to : ℕ) : Type 0 where
   pub number : r ≡ written_number (written_of direction at bytes before)

@@ -4,7 +4,6 @@
 ghost use Rattle.std.specs.Prelude.{◌≡◌};
 ghost use Rattle.interface_record.specs.Post.{part_by, ReadsBytes, WritesBytes};
 
-use record_writer::Written;
 use recording::{Fault, Found, Part};
 
 // Where the record's bytes stand; where there is no record, at the place and nowhere else.
@@ -13,8 +12,7 @@ fn part_of(found: Found, at: usize) -> Part
 {
     match found {
         Found::Is(_, part) => part,
-        Found::End => Part { from: at, to: at },
-        Found::Refused(_) => Part { from: at, to: at },
+        Found::End | Found::Refused(_) => Part { from: at, to: at },
     }
 }
 
@@ -33,7 +31,7 @@ pub extern "C" fn indraveck_read_record(
     let part = part_of(found, at);
     *from = part.from as u64;
     *to = part.to as u64;
-    recording::found_number(found) as u32
+    u32::from(u8::from(found))
 }
 
 // Writes one record at a place of the buffer: 7, with the place behind it; or the number of why it was not written, and the place and
@@ -50,14 +48,13 @@ pub extern "C" fn indraveck_write_record(
 {
     *to = at as u64;
     if 255 < direction {
-        return recording::fault_number(Fault::BadDirection) as u32;
+        return u32::from(u8::from(Fault::BadDirection));
     }
-    let written = record_writer::write_record(buffer, at, direction as u8, bytes);
-    match written {
-        Written::Behind(next) => {
+    match record_writer::write_record(buffer, at, direction as u8, bytes) {
+        Ok(next) => {
             *to = next as u64;
             7
         }
-        Written::Refused(fault) => recording::fault_number(fault) as u32,
+        Err(fault) => u32::from(u8::from(fault)),
     }
 }

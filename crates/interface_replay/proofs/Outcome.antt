@@ -13,11 +13,11 @@ use Rattle.record_exchange.specs.Line.{Entry, exchanges_of}
 use Rattle.record_replay.specs.Replay.{replay}
 use Rattle.record_replay.specs.Post.{Played}
 use Rattle.state.specs.State.{zero_state}
-use Rattle.device_calls.specs.declared.Refusal.TheVariants.{Accepted}
 use Rattle.device_calls.specs.declared.Started.{Started}
 use Rattle.device_calls.specs.Calls.{number_of, is_accepted, start_refusal, started_by}
 use Rattle.device_calls.proofs.Rows.{is_accepted_lem}
 use Rattle.profile_bytes.specs.Profile.{profile_in}
+use Rattle.std.specs.Prelude.{Ok}
 use Rattle.interface_replay.specs.Post.{Replayed}
 
 -- the refusal of the start with the profile in the bytes
@@ -29,7 +29,7 @@ module _ (profile recording before : List ℕ) (p : Profile) (q : p ≡ profile_
   pub left : is_accepted begun.refusal ≡ false → (r : ℕ) → r ≡ number_of begun.refusal → Replayed profile recording before before r 0 0
   left f r m =
       let g : is_accepted (start_refusal (profile_in profile) (length before)) ≡ false = ap is_accepted (sym first) ∙ f in
-      let never : start_refusal (profile_in profile) (length before) ≡ Accepted → ⊥ =
+      let never : start_refusal (profile_in profile) (length before) ≡ Ok tt → ⊥ =
       λ a. let both : false ≡ true = sym g ∙ ap is_accepted a in let z : ◌≡◌ {A = ℕ} 0 1 = cc in omega arith in
       record {
         number = m ∙ ap number_of first;
@@ -43,7 +43,7 @@ module _ (profile recording before : List ℕ) (p : Profile) (q : p ≡ profile_
   pub replayed : is_accepted begun.refusal ≡ true → (after : List ℕ) (extent : Extent) → Played p recording before after extent
       → (ended : ℕ) → ended ≡ ended_number extent.ended → Replayed profile recording before after 0 extent.count ended
   replayed t after extent played ended n =
-      let a : start_refusal (profile_in profile) (length before) ≡ Accepted = sym first ∙ is_accepted_lem begun.refusal t in
+      let a : start_refusal (profile_in profile) (length before) ≡ (Ok tt) = sym first ∙ is_accepted_lem begun.refusal t in
       let same : (es : List Entry) → replay (areas_of p) before es ≡ replay (areas_of (profile_in profile)) before es =
       λ es. ap (λ (x : Profile). replay (areas_of x) before es) q in
       record {

@@ -17,15 +17,13 @@ pub extern "C" fn indraveck_replay(
 {
     let p = profile_bytes::profile_in(profile);
     let begun = device_calls::start(p, image);
-    let refusal = begun.refusal;
-    if !device_calls::is_accepted(refusal) {
+    if !device_calls::is_accepted(begun.refusal) {
         *read = 0;
         *ended = 0;
-        return device_calls::number(refusal) as u32;
+        return device_calls::number(begun.refusal) as u32;
     }
     let extent = record_replay::play(image, p, recording);
-    let why = extent.ended;
     *read = extent.count as u64;
-    *ended = recording::ended_number(why) as u32;
+    *ended = u32::from(u8::from(extent.ended));
     0
 }

@@ -2,6 +2,5 @@ pub mod Copied
 pub mod Laws
 pub mod Part
 pub mod RoundTrip
-pub mod Turns
 pub mod Same
 pub mod There

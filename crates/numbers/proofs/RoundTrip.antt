@@ -8,8 +8,8 @@ use lib.Arith.{mod-mul, digits_lt, digits_div}
 use lib.ListN.{length, take, drop, get_or}
 use lib.Seq.{sets, sets-eq, length-sets, drop_at, take_at, length-take-le}
 use borrow.Author.Tests.{le-leb}
-use Rattle.numbers.specs.declared.Number.TheVariants.{Is}
-use Rattle.numbers.specs.Bytes.{number, bytes_of, field, number_at, with_number, AllBytes}
+use Rattle.std.specs.Prelude.{Some}
+use Rattle.numbers.specs.Bytes.{number, bytes_of, field, value_at, number_at, with_number, AllBytes}
 
 pub bytes_length : (w n : ℕ) → length (bytes_of w n) ≡ w
 unfolding bytes_of
@@ -72,8 +72,8 @@ bytes_number (b ∷ bs) t =
     rw (digits_div b {m = 256 ^ length bs} (number_below bs t.1), mod-eq_of_lt t.0, bytes_above (length bs) b (number bs), bytes_number bs t.1) refl
 
 -- a field that was written reads back
-pub read_back : (w n at : ℕ) (l : List ℕ) → at + w ≤ length l → n < 256 ^ w → number_at w (with_number w n at l) at ≡ Is n
-unfolding number_at with_number
+pub read_back : (w n at : ℕ) (l : List ℕ) → at + w ≤ length l → n < 256 ^ w → number_at w (with_number w n at l) at ≡ Some n
+unfolding value_at with_number
 read_back w n at l h f =
     let v : length (bytes_of w n) ≡ w = bytes_length w n in
     let k : at + length (bytes_of w n) ≤ length l = rw v h in

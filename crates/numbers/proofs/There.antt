@@ -6,8 +6,8 @@ use native.Mathlib.Omega.{arith}
 use lib.ListN.{length, drop, get_or, length-drop}
 use lib.Seq.{length-take-le}
 use borrow.Author.Tests.{le-leb}
-use Rattle.numbers.specs.declared.Number.TheVariants.{Is}
-use Rattle.numbers.specs.Bytes.{number, field, number_at}
+use Rattle.std.specs.Prelude.{Some}
+use Rattle.numbers.specs.Bytes.{number, field, value_at, number_at}
 
 pub entry_there : {A : Type 0} (l : List A) (i : ℕ) (d e : A) → i < length l → get_or l i d ≡ get_or l i e
 entry_there [] i d e h = absurd (omega arith)
@@ -23,6 +23,6 @@ module _ (width at : ℕ) (s : List ℕ) (h : at + width ≤ length s) where
       length-take-le width (drop at s) k
 
   -- and is not cut short
-  pub number_there : number_at width s at ≡ Is (number (field width at s))
-  unfolding number_at
+  pub number_there : number_at width s at ≡ Some (number (field width at s))
+  unfolding value_at
   number_there = rw (le-leb (at + width) (length s) h) refl

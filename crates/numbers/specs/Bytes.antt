@@ -1,8 +1,6 @@
 -- Numbers go high byte first. Every definition is over the width, in bytes.
-use Rattle.std.specs.Prelude.{Bool, cond, List, [], ◌∷◌, ◌≡◌, ℕ, zero, suc, ◌+◌, ◌*◌, ◌/◌, ◌%◌, ◌^◌, ◌<◌, length, take, drop, leb}
+use Rattle.std.specs.Prelude.{Bool, cond, List, [], ◌∷◌, ◌≡◌, ℕ, zero, suc, ◌+◌, ◌*◌, ◌/◌, ◌%◌, ◌^◌, ◌<◌, length, take, drop, leb, Option, Some, None}
 use Rattle.std.proofs.lemmas.List.Edits.{sets}
-use Rattle.numbers.specs.declared.Number.{Number}
-use Rattle.numbers.specs.declared.Number.TheVariants.{Is, CutShort}
 
 -- the number that bytes make
 unfoldable pub number : List ℕ → ℕ
@@ -18,9 +16,17 @@ bytes_of (suc width) n = n / 256 ^ width % 256 ∷ bytes_of width n
 abbrev pub field : ℕ → ℕ → List ℕ → List ℕ
 field width at s = take width (drop at s)
 
+-- a number as a value of a type of numbers, and such a value as a number
+abbrev pub itself : ℕ → ℕ
+itself n = n
+
+-- what `of` makes of the number in a field, where the list has the whole field
+unfoldable pub value_at : {N : Type 0} → (ℕ → N) → ℕ → List ℕ → ℕ → Option N
+value_at of width s at = cond (leb (at + width) (length s)) (Some (of (number (field width at s)))) None
+
 -- the number in a field, where the list has the whole field
-unfoldable pub number_at : ℕ → List ℕ → ℕ → Number
-number_at width s at = cond (leb (at + width) (length s)) (Is (number (field width at s))) CutShort
+abbrev pub number_at : ℕ → List ℕ → ℕ → Option ℕ
+number_at = value_at itself
 
 -- a list with a number's bytes in a field, where the list has the whole field
 unfoldable pub with_number : ℕ → ℕ → ℕ → List ℕ → List ℕ

@@ -1,109 +1,106 @@
-// Numbers on the line: two or four bytes, high byte first; the smaller of two numbers; whether bytes are the same; a copy.
+// Numbers on the line: two or four bytes, high byte first; whether bytes are the same; a copy.
 #![tactic(auto)]
 
 mod copying;
 
-ghost use Rattle.std.specs.Prelude.{◌≡◌, ◌+◌, ◌<◌, min, leb};
-ghost use Rattle.numbers.specs.Bytes.{number_at, Put};
+ghost use Rattle.std.specs.Prelude.{◌≡◌, ◌+◌, leb, ℕ};
+ghost use Rattle.numbers.specs.Bytes.{itself, value_at, Put};
 ghost use Rattle.numbers.specs.Same.{same};
 
 pub use copying::copy;
-
-// A number that was read, or that the slice ends before the number does.
-#[derive(Clone, Copy)]
-pub enum Number {
-    Is(u32),
-    CutShort,
-}
-
-// The smaller of the two: a place or a count, cut to what there is.
-pub fn lower(a: usize, b: usize) -> usize
-    ensures { result ≡ min a b }
-{
-    if a < b { a } else { b }
-}
-
-// The byte as a wider number.
-fn wide(byte: u8) -> u32
-    ensures { (result ≡ byte) × (result < 256) }
-{
-    byte as u32
-}
 
 // Whether a field of `width` bytes at `at` lies in a slice of `length` bytes.
 pub fn has_field(length: usize, at: usize, width: usize) -> bool
     ensures { result ≡ leb (at + width) length }
 {
-    if length < width {
-        return false;
-    }
-    if length - width < at {
-        return false;
-    }
-    true
+    length.checked_sub(width).is_some_and(|last| at <= last)
 }
 
-// The number in the two bytes from `at` on.
-pub fn read_two(s: &[u8], at: usize) -> Number
-    ensures { result ≡ number_at 2 s.now at }
-{
-    if !has_field(s.len(), at, 2) {
-        return Number::CutShort;
-    }
-    Number::Is(wide(s[at]) * 256 + wide(s[at + 1]))
+// A type of numbers that the line carries, each in as many bytes as the type has.
+pub trait Number: Copy {
+    ghost width: { ℕ };
+
+    // A number as a value of the type, and a value as a number: generic code cannot know that they are the same.
+    ghost of: { ℕ → Self };
+
+    ghost value: { Self → ℕ };
+
+    // The number in the first bytes, or None where they are too few.
+    fn first(s: &[u8]) -> Option<Self>
+        ensures { result ≡ value_at of width s.now 0 };
+
+    // The number's bytes to the front; false where there is no room, and then nothing is written.
+    fn put(self, s: &mut [u8]) -> bool
+        ensures { Put width (value self) 0 s.old s.new result };
 }
 
-// The number in the four bytes from `at` on.
-pub fn read_four(s: &[u8], at: usize) -> Number
-    ensures { result ≡ number_at 4 s.now at }
-{
-    if !has_field(s.len(), at, 4) {
-        return Number::CutShort;
+impl Number for u16 {
+    ghost width = { 2 };
+
+    ghost of = { itself };
+
+    ghost value = { itself };
+
+    #[tactic(auto, using(crate::proofs::Laws::number_first, crate::proofs::Laws::number_two, crate::proofs::Laws::read_outside))]
+    fn first(s: &[u8]) -> Option<u16> {
+        Some(u16::from_be_bytes(*s.first_chunk::<2>()?))
     }
-    let high = wide(s[at]) * 256 + wide(s[at + 1]);
-    let low = wide(s[at + 2]) * 256 + wide(s[at + 3]);
-    Number::Is(high * 65536 + low)
+
+    #[tactic(auto, using(crate::proofs::Laws::put_outside))]
+    fn put(self, s: &mut [u8]) -> bool {
+        let Some(bytes) = s.first_chunk_mut::<2>() else {
+            return false;
+        };
+        *bytes = u16::to_be_bytes(self);
+        true
+    }
 }
 
-// The number's two bytes from `at` on; false where there is no room, and then nothing is written.
-pub fn write_two(buffer: &mut [u8], at: usize, n: u16) -> bool
-    ensures { Put 2 n at buffer.old buffer.new result }
+impl Number for u32 {
+    ghost width = { 4 };
+
+    ghost of = { itself };
+
+    ghost value = { itself };
+
+    #[tactic(auto, using(crate::proofs::Laws::number_first, crate::proofs::Laws::number_four, crate::proofs::Laws::read_outside))]
+    fn first(s: &[u8]) -> Option<u32> {
+        Some(u32::from_be_bytes(*s.first_chunk::<4>()?))
+    }
+
+    #[tactic(auto, using(crate::proofs::Laws::put_outside))]
+    fn put(self, s: &mut [u8]) -> bool {
+        let Some(bytes) = s.first_chunk_mut::<4>() else {
+            return false;
+        };
+        *bytes = u32::to_be_bytes(self);
+        true
+    }
+}
+
+// The number in the bytes from `at` on, or None where the slice ends before the number does.
+#[tactic(auto, using(crate::proofs::Laws::read_inside, crate::proofs::Laws::read_outside))]
+pub fn read<N: Number>(s: &[u8], at: usize) -> Option<N>
+    ensures { result ≡ value_at N.of N.width s.now at }
 {
-    if !has_field(buffer.len(), at, 2) {
+    N::first(s.get(at..)?)
+}
+
+// The number's bytes from `at` on; false where there is no room, and then nothing is written.
+#[tactic(auto, using(crate::proofs::Laws::put_inside, crate::proofs::Laws::put_outside))]
+pub fn write<N: Number>(buffer: &mut [u8], at: usize, n: N) -> bool
+    ensures { Put N.width (N.value n) at buffer.old buffer.new result }
+{
+    if buffer.len() < at {
         return false;
     }
-    buffer[at] = (n / 256 % 256) as u8;
-    buffer[at + 1] = (n % 256) as u8;
-    true
-}
-
-// The number's four bytes from `at` on; false where there is no room, and then nothing is written.
-pub fn write_four(buffer: &mut [u8], at: usize, n: u32) -> bool
-    ensures { Put 4 n at buffer.old buffer.new result }
-{
-    if !has_field(buffer.len(), at, 4) {
-        return false;
-    }
-    buffer[at] = (n / 16777216 % 256) as u8;
-    buffer[at + 1] = (n / 65536 % 256) as u8;
-    buffer[at + 2] = (n / 256 % 256) as u8;
-    buffer[at + 3] = (n % 256) as u8;
-    true
+    n.put(&mut buffer[at..])
 }
 
 // Whether two slices hold the same bytes.
+#[tactic(auto, unfolding(crate::specs::Same::same))]
 pub fn equal(a: &[u8], b: &[u8]) -> bool
     ensures { result ≡ same a.now b.now }
 {
-    if a.len() != b.len() {
-        return false;
-    }
-    let mut i = 0;
-    while i < a.len() {
-        if a[i] != b[i] {
-            return false;
-        }
-        i += 1;
-    }
-    true
+    a == b
 }

@@ -1,13 +1,11 @@
--- What copying and summing bytes, building a packet from a buffer's front and answering for it need. Assumes nothing.
-use Rattle.std.proofs.Common.{◌≡◌, ℕ, ◌+◌, ◌-◌, ◌%◌, ◌^◌, ◌<◌, ◌≤◌, true, false, leb, List, [], ◌∷◌, ◌++◌, length, get_or, take, drop, set, sym, refl, ap, ◌∙◌, append_assoc, add-one, arith, length-append, length-drop, length-set, drop_of_length-le, take_all, take-suc, drop-drop, take-suc-set, drop_at, le-leb}
-use mathlib.Core.Bool.{and-false}
+-- What copying and summing bytes, and building a packet from a buffer's front, need. Assumes nothing.
+use Rattle.std.proofs.Common.{◌≡◌, ℕ, ◌+◌, ◌-◌, ◌%◌, ◌^◌, ◌<◌, ◌≤◌, true, leb, fold, List, [], ◌∷◌, ◌++◌, length, get_or, take, drop, set, sym, refl, ap, ◌∙◌, append_assoc, add-one, arith, length-append, length-drop, length-set, take_all, take-suc, drop-drop, take-suc-set, drop_at, le-leb}
 use lib.Seq.{sets, sets-eq, take-append_seam}
-use borrow.Author.Tests.{lt-leb}
 use Rattle.numbers.specs.Bytes.{bytes_of, field, with_number}
 use Rattle.packet.specs.declared.Kind.{Kind}
 use Rattle.packet.specs.Packet.{start_of, longest_of, permitted, sum_of, lack, counted, frame}
-use Rattle.packet.specs.Frame.{longest_data, front, has_room, Framed}
-use Rattle.packet.proofs.Laws.{longest_most}
+use Rattle.packet.specs.Frame.{front, has_room}
+use Rattle.packet.proofs.Laws.{sum_all}
 
 -- one byte more is copied
 pub copy_next : (to from : List ℕ) (i : ℕ) → i < length to → i < length from → take i to ≡ take i from
@@ -21,11 +19,8 @@ copy_end to from i l h e =
     sym (take_all i to k) ∙ e ∙ take_all i from h
 
 -- all bytes are summed: t is the whole sum
-pub sum_end : (l : List ℕ) (i t : ℕ) → length l ≤ i → t < 256 → (t + sum_of (drop i l)) % 256 ≡ sum_of l % 256 → t ≡ sum_of l % 256
-unfolding sum_of
-sum_end l i t h k e =
-    let z : sum_of (drop i l) ≡ 0 = ap sum_of (drop_of_length-le l h) in
-    omega arith
+pub sum_end : (l : List ℕ) (i t : ℕ) → length l ≤ i → t ≡ fold (λ t b. (t + b) % 256) 0 (take i l) → t ≡ sum_of l % 256
+sum_end l i t h e = e ∙ ap (λ (k : List ℕ). fold (λ t b. (t + b) % 256) 0 k) (take_all i l h) ∙ sum_all l
 
 -- start byte, length, COM or RES
 pub head_put : (kind : Kind) (b after : List ℕ) (start code m : ℕ) → start ≡ start_of kind → 4 ≤ length b → after ≡ with_number 2 m 1 (set b 0 start)
@@ -120,28 +115,7 @@ module _ (kind : Kind) where
       ∙ ap (λ (l : List ℕ). ended l (n + 4) d) (bytes_put b bytes code)
       ∙ frame_ended b bytes code (n + 4) d refl h ed
 
-  -- no kind permits more than the longest data packet has
-  pub too_long : (n : ℕ) → longest_data + 1 < n → permitted kind n ≡ false
-  unfolding permitted
-  too_long n h = rw (lt-leb n (longest_of kind) (omega (arith, longest_most kind))) (and-false (leb 1 n))
-
-  -- a packet that is not permitted or has no room, and one that is and has it
-  module _ (contents b : List ℕ) where
-    pub not_permitted : (n : ℕ) → n ≡ length contents → permitted kind n ≡ false → has_room kind contents b ≡ false
-    unfolding has_room
-    not_permitted n l e = rw (← l, e) refl
-
-    pub no_room : length b < length contents + 5 → has_room kind contents b ≡ false
-    unfolding has_room
-    no_room h = rw (lt-leb (length contents + 5) (length b) h) (and-false (permitted kind (length contents)))
-
-    pub room : 1 ≤ length contents → length contents ≤ longest_of kind → length contents + 5 ≤ length b → has_room kind contents b ≡ true
-    unfolding has_room permitted
-    room h k l = simp (le-leb 1 (length contents) h, le-leb (length contents) (longest_of kind) k, le-leb (length contents + 5) (length b) l)
-
-    pub refused : has_room kind contents b ≡ false → Framed kind contents b b 0
-    refused e = record { answers = rw e refl; leaves = rw e refl }
-
-    pub framed : (after : List ℕ) (r : ℕ) → has_room kind contents b ≡ true → r ≡ length contents + 5 → after ≡ front (frame kind contents) b
-        → Framed kind contents b after r
-    framed after r e f g = record { answers = rw e f; leaves = rw e g }
+  -- contents that the kind permits, and a buffer with room for their packet
+  pub room : (contents b : List ℕ) → 1 ≤ length contents → length contents ≤ longest_of kind → length contents + 5 ≤ length b → has_room kind contents b ≡ true
+  unfolding has_room permitted
+  room contents b h k l = simp (le-leb 1 (length contents) h, le-leb (length contents) (longest_of kind) k, le-leb (length contents + 5) (length b) l)

@@ -1,7 +1,7 @@
 -- A packet that is built is whole and good, and its payload is what it was built from. A good packet is the one that is built from its contents.
 -- Assumes nothing.
 use Rattle.std.proofs.Common.{◌≡◌, ℕ, zero, suc, ◌+◌, ◌-◌, ◌/◌, ◌%◌, ◌^◌, ◌<◌, ◌≤◌, Bool, true, false, not, ◌||◌, eqb, ltb, List, [], ◌∷◌, ◌++◌, length, get_or, take, drop, sym, refl, ap, ◌∙◌, subst, append_assoc, mod-lt, arith, length-append, take-append-drop, drop_of_length-le, length-take-le, drop-cons, take_at, drop_at, le-ltb, eq-eqb, eqb-true, le-leb}
-use mathlib.Core.Option.{Option, none, some}
+use Rattle.std.specs.Prelude.{Option, None, Some}
 use lib.Seq.{get_or_at}
 use borrow.Author.Tests.{not-false}
 use Rattle.numbers.specs.Bytes.{number, bytes_of, AllBytes}
@@ -150,9 +150,9 @@ pub record Ended (q : List ℕ) : Type 0 where
   pub etx : etx_of q ≡ 0x03
   pub total : sum_of (summed q) % 256 ≡ 0
 
-passes_none : (f : Option Reason) → passes f ≡ true → f ≡ none
-passes_none none e = refl
-passes_none (some reason) e = impossible (cc)
+passes_none : (f : Option Reason) → passes f ≡ true → f ≡ None
+passes_none None e = refl
+passes_none (Some reason) e = impossible (cc)
 
 -- the second of two tests that both fail
 neither : (s t : Bool) → (s || t) ≡ false → t ≡ false

@@ -1,5 +1,5 @@
 -- Packets that are built: one at the front of a lent buffer, and the buffers that are long enough for any.
-use Rattle.std.specs.Prelude.{◌≡◌, ℕ, ◌+◌, ◌≤◌, Bool, cond, ◌&&◌, List, ◌++◌, length, drop, nat_le}
+use Rattle.std.specs.Prelude.{◌≡◌, ℕ, ◌+◌, ◌≤◌, Bool, cond, ◌&&◌, List, ◌++◌, length, drop, nat_le, Option, Some, None}
 use Rattle.packet.specs.declared.Kind.{Kind}
 use Rattle.packet.specs.Packet.{permitted, frame}
 
@@ -22,7 +22,7 @@ front bytes buffer = bytes ++ drop (length bytes) buffer
 unfoldable pub has_room : Kind → List ℕ → List ℕ → Bool
 has_room kind contents buffer = permitted kind (length contents) && nat_le (length contents + 5) (length buffer)
 
--- what building a packet leaves, and the length that it answers
-pub record Framed (kind : Kind) (contents before after : List ℕ) (r : ℕ) : Type 0 where
-  pub answers : r ≡ cond (has_room kind contents before) (length contents + 5) 0
+-- what building a packet leaves, and what it answers: the packet's length, where there is one
+pub record Framed (kind : Kind) (contents before after : List ℕ) (r : Option ℕ) : Type 0 where
+  pub answers : r ≡ cond (has_room kind contents before) (Some (length contents + 5)) None
   pub leaves : after ≡ cond (has_room kind contents before) (front (frame kind contents) before) before

@@ -5,22 +5,21 @@ ghost use Rattle.numbers.specs.Bytes.{bytes_of, field};
 ghost use Rattle.packet.specs.Packet.{start_of, sum_of, lack, frame};
 ghost use Rattle.packet.specs.Frame.{longest_data, front, Framed};
 
-use crate::{Kind, LONGEST_DATA, is_permitted, start_byte, sum};
+use crate::{Kind, is_permitted, sum};
 
-// All bytes of one slice into another of the same length, and their sum modulo 256: one walk, which the compiler does in blocks.
+// All bytes of one slice into another of the same length, and their sum modulo 256: one walk, which the compiler does in blocks. It writes by index,
+// since of what `iter_mut().zip(from)` wrote a proof would know only the length.
+#[tactic(auto, using(std::proofs::lemmas::List::Sums::fold_more, crate::proofs::Building::copy_next))]
 fn copy_sum(to: &mut [u8], from: &[u8]) -> u8
     requires { length to.old ≡ length from.now }
     ensures { (to.new ≡ from.now) × (result ≡ sum_of from.now % 256) }
 {
-    let mut t: u8 = 0;
-    let mut i = 0;
-    while i < from.len() {
-        let b = from[i];
-        t = std::num::wrapping_add_u8(t, b);
-        to[i] = b;
-        i += 1;
+    let mut total: u8 = 0;
+    for (i, byte) in from.iter().enumerate() {
+        to[i] = *byte;
+        total = total.wrapping_add(*byte);
     }
-    t
+    total
 }
 
 // What a packet has before its information or data: start byte, length, COM or RES.
@@ -28,8 +27,8 @@ fn put_head(buffer: &mut [u8], kind: Kind, code: u8, n: usize)
     requires { (n ≤ longest_data) × (4 ≤ length buffer.old) }
     ensures { buffer.new ≡ front (start_of kind ∷ bytes_of 2 (n + 1) ++ code ∷ []) buffer.old }
 {
-    buffer[0] = start_byte(kind);
-    numbers::write_two(buffer, 1, (n + 1) as u16);
+    buffer[0] = u8::from(kind);
+    numbers::write(buffer, 1, (n + 1) as u16);
     buffer[3] = code;
 }
 
@@ -56,20 +55,15 @@ fn fill_frame(buffer: &mut [u8], kind: Kind, code: u8, bytes: &[u8]) -> usize
     end + 2
 }
 
-// A packet of a kind at the front of the buffer, with COM or RES and the bytes behind it: how many bytes the packet has; 0 where the kind
+// A packet of a kind at the front of the buffer, with COM or RES and the bytes behind it: how many bytes the packet has; `None` where the kind
 // permits no such length or there is no room, and then nothing is written.
-pub fn put_frame(buffer: &mut [u8], kind: Kind, code: u8, bytes: &[u8]) -> usize
+#[tactic(auto, using(crate::proofs::Laws::permitted_most), unfolding(crate::specs::Frame::has_room))]
+pub fn put_frame(buffer: &mut [u8], kind: Kind, code: u8, bytes: &[u8]) -> Option<usize>
     ensures { Framed kind (code ∷ bytes.now) buffer.old buffer.new result }
 {
     let n = bytes.len();
-    if LONGEST_DATA < n {
-        return 0;
+    if !is_permitted(kind, n + 1) || buffer.len() < n + 6 {
+        return None;
     }
-    if !is_permitted(kind, n + 1) {
-        return 0;
-    }
-    if buffer.len() < n + 6 {
-        return 0;
-    }
-    fill_frame(buffer, kind, code, bytes)
+    Some(fill_frame(buffer, kind, code, bytes))
 }

@@ -9,7 +9,6 @@ ghost use Rattle.verdict.specs.Check.{first_fault, verdict_of};
 ghost use Rattle.packet.specs.Packet.{start_of, sum_of, permitted, measured_of, progress_of, ending_checks, is_partial, is_complete, ends_well, good, payload_of, payload_at};
 
 pub use framing::put_frame;
-use numbers::Number;
 use verdict::{Reason, Verdict};
 
 // How many bytes the longest packet has, and a buffer that any packet fits into.
@@ -55,12 +54,14 @@ pub fn is_permitted(kind: Kind, length: usize) -> bool
 }
 
 // The kind's start byte.
-pub(crate) fn start_byte(kind: Kind) -> u8
-    ensures { result ≡ start_of kind }
-{
-    match kind {
-        Kind::Command => 0x01,
-        Kind::Data => 0x81,
+impl From<Kind> for u8 {
+    ghost from_gives = { λ kind n. n ≡ start_of kind };
+
+    fn from(kind: Kind) -> u8 {
+        match kind {
+            Kind::Command => 0x01,
+            Kind::Data => 0x81,
+        }
     }
 }
 
@@ -88,13 +89,12 @@ pub fn gathered(s: &[u8], kind: Kind) -> Progress
     if s.len() == 0 {
         return Progress::Partial;
     }
-    if s[0] != start_byte(kind) {
+    if s[0] != u8::from(kind) {
         return Progress::Astray;
     }
-    let length = numbers::read_two(s, 1);
-    match length {
-        Number::CutShort => Progress::Partial,
-        Number::Is(n) => measured(kind, s.len(), n as usize),
+    match numbers::read::<u16>(s, 1) {
+        None => Progress::Partial,
+        Some(n) => measured(kind, s.len(), n as usize),
     }
 }
 
@@ -102,27 +102,14 @@ pub fn gathered(s: &[u8], kind: Kind) -> Progress
 pub fn waits(s: &[u8], kind: Kind) -> bool
     ensures { result ≡ is_partial (progress_of kind s.now) }
 {
-    let progress = gathered(s, kind);
-    match progress {
-        Progress::Astray => false,
-        Progress::Partial => true,
-        Progress::Unfit => false,
-        Progress::Complete => false,
-        Progress::Excess => false,
-    }
+    matches!(gathered(s, kind), Progress::Partial)
 }
 
 // The sum of the bytes, modulo 256.
 pub fn sum(s: &[u8]) -> u8
     ensures { result ≡ sum_of s.now % 256 }
 {
-    let mut t: u8 = 0;
-    let mut i = 0;
-    while i < s.len() {
-        t = std::num::wrapping_add_u8(t, s[i]);
-        i += 1;
-    }
-    t
+    s.iter().fold(0, |total, byte| total.wrapping_add(*byte))
 }
 
 // ETX, then SUM, of a packet that is all of the slice.
@@ -131,16 +118,16 @@ pub fn check_ending(packet: &[u8]) -> Verdict
 {
     let n = packet.len();
     if n < 2 {
-        return Verdict::Refused(Reason::WrongEtx);
+        return Err(Reason::WrongEtx);
     }
     if packet[n - 1] != 0x03 {
-        return Verdict::Refused(Reason::WrongEtx);
+        return Err(Reason::WrongEtx);
     }
     let end = n - 1;
     if sum(&packet[1..end]) != 0 {
-        return Verdict::Refused(Reason::WrongSum);
+        return Err(Reason::WrongSum);
     }
-    Verdict::Granted
+    Ok(())
 }
 
 // Whether the slice is exactly one whole packet, of either kind, with right ETX and SUM.
@@ -160,24 +147,15 @@ pub fn is_good(packet: &[u8]) -> bool
 fn is_complete(progress: Progress) -> bool
     ensures { result ≡ is_complete progress }
 {
-    match progress {
-        Progress::Astray => false,
-        Progress::Partial => false,
-        Progress::Unfit => false,
-        Progress::Complete => true,
-        Progress::Excess => false,
-    }
+    matches!(progress, Progress::Complete)
 }
 
 // Whether ETX and SUM are right.
+#[tactic(auto, using(verdict::proofs::FirstFault::is_granted), unfolding(crate::specs::Packet::ends_well))]
 fn ends_well(packet: &[u8]) -> bool
     ensures { result ≡ ends_well packet.now }
 {
-    let ending = check_ending(packet);
-    match ending {
-        Verdict::Granted => true,
-        Verdict::Refused(_) => false,
-    }
+    check_ending(packet).is_ok()
 }
 
 // COM or RES and what follows before SUM, of the packet that the first `count` bytes are; empty where they are no such packet.

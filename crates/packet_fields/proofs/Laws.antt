@@ -7,7 +7,7 @@ use native.Mathlib.Omega.{arith}
 use lib.ListN.{length, take, drop, get_or}
 use lib.Dec.{ltb, eqb}
 use borrow.Author.Tests.{ne_eqb, eqb-true, le-leb, lt-ltb, le-ltb, ltb-true, ltb-false}
-use Rattle.numbers.specs.Bytes.{number, field, number_at}
+use Rattle.numbers.specs.Bytes.{number, field, number_at, value_at}
 use Rattle.numbers.proofs.Part.{part_there}
 use Rattle.numbers.proofs.There.{entry_there, field_there}
 use Rattle.packet_fields.specs.declared.Com.{Com}
@@ -89,5 +89,5 @@ module _ (q : List ℕ) (h : 6 ≤ length q) where
 
 -- a number that is there
 pub value_read : (w at : ℕ) (bs : List ℕ) → at + w ≤ length bs → value_of (number_at w bs at) ≡ number (field w at bs)
-unfolding number_at
+unfolding value_at
 value_read w at bs h = rw (le-leb (at + w) (length bs) h) refl

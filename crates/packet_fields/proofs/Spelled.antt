@@ -10,8 +10,8 @@ use lib.Dec.{leb}
 use lib.ListN.{length, take, drop, get_or, replicate}
 use lib.Seq.{drop-cons, drop-nil, take-nil, take_all}
 use borrow.Author.Tests.{leb-true}
-use Rattle.numbers.specs.declared.Number.TheVariants.{Is, CutShort}
-use Rattle.numbers.specs.Bytes.{number, field, number_at}
+use Rattle.numbers.specs.Bytes.{number, field, number_at, value_at}
+use Rattle.std.specs.Prelude.{Some, None}
 use Rattle.packet_fields.specs.Fields.{bytes_from}
 
 -- they are a part of the list
@@ -45,19 +45,19 @@ from_there (suc n) zero (x ∷ l) = ap (λ (t : List ℕ). x ∷ t) (one_further
 from_there n (suc at) (x ∷ l) = one_further n at x l ∙ from_there n at l
 
 -- two bytes make a number of two bytes
-pub two_small : (s : List ℕ) (at n : ℕ) → ((i : ℕ) → get_or s i 0 < 256) → Is n ≡ number_at 2 s at → n < 65536
-unfolding number_at number bytes_from
+pub two_small : (s : List ℕ) (at n : ℕ) → ((i : ℕ) → get_or s i 0 < 256) → Some n ≡ number_at 2 s at → n < 65536
+unfolding value_at number bytes_from
 two_small s at n byte e = by (leb (at + 2) (length s)) refl
   where
     by : (t : Bool) → leb (at + 2) (length s) ≡ t → n < 65536
     by true h =
         let r : at + 2 ≤ length s = leb-true (at + 2) (length s) h in
         let p : take 2 (drop at s) ≡ bytes_from 2 at s = sym (from_part 2 at s r) in
-        let f : Is n ≡ Is (number (field 2 at s)) = rw h at e in
+        let f : Some n ≡ Some (number (field 2 at s)) = rw h at e in
         let k : n ≡ number (field 2 at s) = cc in
         let j : n ≡ number (bytes_from 2 at s) = k ∙ ap number p in
         omega (arith, byte at, byte (at + 1))
     by false h =
-        let f : Is n ≡ CutShort = rw h at e in
+        let f : Some n ≡ None = rw h at e in
         let z : ◌≡◌ {A = ℕ} 0 1 = cc in
         omega arith

@@ -1,7 +1,6 @@
 -- What stands in a packet: its COM or RES and which command that is, its information, and the numbers in it.
-use Rattle.std.specs.Prelude.{cond, List, [], ◌∷◌, ℕ, zero, suc, ◌+◌, ◌-◌, length, take, drop, get_or, ltb, eqb}
-use Rattle.numbers.specs.declared.Number.{Number}
-use Rattle.numbers.specs.declared.Number.TheVariants.{Is, CutShort}
+use Rattle.std.specs.Prelude.{cond, List, [], ◌∷◌, ℕ, zero, suc, ◌+◌, ◌-◌, length, take, drop, get_or, ltb, eqb, Option}
+use Rattle.std.specs.Option.{unwrap_or}
 use Rattle.numbers.specs.Bytes.{number_at}
 use Rattle.packet_fields.specs.declared.Com.{Com}
 use Rattle.packet_fields.specs.declared.Com.TheVariants.{Inquiry, Erase, Write, Read, Authenticate, Baud, Signature, Area, Unknown}
@@ -42,9 +41,8 @@ info_at q = cond (ltb (length q) 6) 0 4
 
 -- the number in the four bytes from a place on; the 0 for bytes that are not there never decides: check_command, proofs/There, `sad_there`,
 -- `ead_there` and `brt_there`
-abbrev pub value_of : Number → ℕ
-value_of (Is n) = n
-value_of CutShort = 0
+abbrev pub value_of : Option ℕ → ℕ
+value_of n = unwrap_or n 0
 
 unfoldable pub four_at : List ℕ → ℕ → ℕ
 four_at q at = value_of (number_at 4 q at)

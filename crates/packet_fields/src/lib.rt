@@ -5,8 +5,6 @@ ghost use Rattle.std.specs.Prelude.{◌≡◌, get_or};
 ghost use Rattle.numbers.specs.Part.{PartAt};
 ghost use Rattle.packet_fields.specs.Fields.{com_of, info_count, info_of, info_at, four_at, info_length};
 
-use numbers::Number;
-
 // The commands.
 #[derive(Clone, Copy)]
 pub enum Com {
@@ -39,23 +37,27 @@ pub const SIGNATURE: u8 = 0x3A;
 pub const AREA: u8 = 0x3B;
 
 // The command of a number.
-pub fn com_of(code: u8) -> Com
-    ensures { result ≡ com_of code }
-{
-    match code {
-        INQUIRY => Com::Inquiry,
-        ERASE => Com::Erase,
-        WRITE => Com::Write,
-        READ => Com::Read,
-        AUTHENTICATE => Com::Authenticate,
-        BAUD => Com::Baud,
-        SIGNATURE => Com::Signature,
-        AREA => Com::Area,
-        _ => Com::Unknown,
+impl From<u8> for Com {
+    ghost from_gives = { λ code cmd. cmd ≡ com_of code };
+
+    #[tactic(auto, unfolding(crate::specs::Fields::com_of, crate::specs::Fields::com_in))]
+    fn from(code: u8) -> Com {
+        match code {
+            INQUIRY => Com::Inquiry,
+            ERASE => Com::Erase,
+            WRITE => Com::Write,
+            READ => Com::Read,
+            AUTHENTICATE => Com::Authenticate,
+            BAUD => Com::Baud,
+            SIGNATURE => Com::Signature,
+            AREA => Com::Area,
+            _ => Com::Unknown,
+        }
     }
 }
 
-// How many bytes stand between COM or RES and SUM.
+// How many bytes stand between COM or RES and SUM. Here and below the definitions answer 0 for what is not there, and no answer of the
+// device rests on such a 0 (device_steps, proofs/Defaults), so no `Option` is handed on.
 pub fn info_count(packet: &[u8]) -> usize
     ensures { result ≡ info_count packet.now }
 {
@@ -84,14 +86,11 @@ pub fn info(packet: &[u8]) -> &[u8]
 }
 
 // The number in the four bytes from `at` on; 0 where they are not there.
+#[tactic(auto, unfolding(crate::specs::Fields::four_at))]
 pub fn four_at(packet: &[u8], at: usize) -> u32
     ensures { result ≡ four_at packet.now at }
 {
-    let number = numbers::read_four(packet, at);
-    match number {
-        Number::Is(n) => n,
-        Number::CutShort => 0,
-    }
+    numbers::read::<u32>(packet, at).unwrap_or(0)
 }
 
 // How many bytes of information a command has.

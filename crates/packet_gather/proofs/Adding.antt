@@ -10,7 +10,6 @@ use lib.ListN.{length, take, drop, get_or, set, replicate, length-append, length
 use lib.Seq.{paste, take-append-le, drop-append-le, take-add, length-take-le, paste-zero, paste-suc}
 use borrow.Author.Tests.{lt-ltb, le-ltb, ltb-true, ltb-false, eq-eqb, ne_eqb}
 use Rattle.numbers.specs.Bytes.{number_at}
-use Rattle.numbers.specs.declared.Number.TheVariants.{Is, CutShort}
 use Rattle.numbers.proofs.Copied.{part_count, pasted}
 use Rattle.packet.specs.declared.Kind.{Kind}
 use Rattle.packet.specs.declared.Progress.TheVariants.{Partial}
@@ -18,6 +17,7 @@ use Rattle.packet.specs.Packet.{length_of, permitted, progress_of, is_partial}
 use Rattle.packet.proofs.Laws.{length_cut, length_there, length_read}
 use Rattle.packet.proofs.Gathering.{Held, held, partial}
 use Rattle.packet.proofs.Partial.{is_partial_lem, partial_few}
+use Rattle.std.specs.Prelude.{Some, None}
 use Rattle.packet_gather.specs.Gather.{lack_of, open_of, gain_of, Holds}
 
 -- how many bytes are lacking before the last
@@ -30,10 +30,10 @@ unfolding lack_of
 lack_long q h = simp (le-ltb _ _ h)
 
 -- the same, by what the length bytes were read as
-pub lack_cut : (q : List ℕ) → number_at 2 q 1 ≡ CutShort → 0 ≡ lack_of q
+pub lack_cut : (q : List ℕ) → number_at 2 q 1 ≡ None → 0 ≡ lack_of q
 lack_cut q e = sym (lack_short q (ltb-true (length q) 3 (length_cut q e)))
 
-pub lack_read : (q : List ℕ) (n : ℕ) → number_at 2 q 1 ≡ Is n → n + 4 - length q ≡ lack_of q
+pub lack_read : (q : List ℕ) (n : ℕ) → number_at 2 q 1 ≡ Some n → n + 4 - length q ≡ lack_of q
 lack_read q n e = ap (λ (k : ℕ). k + 4 - length q) (length_read q n e) ∙ sym (lack_long q (ltb-false (length q) 3 (length_there q n e)))
 
 -- where any is lacking, the length has come

@@ -5,7 +5,6 @@ ghost use Rattle.std.specs.Prelude.{◌≡◌, ◌+◌, ◌≤◌, length};
 ghost use Rattle.std.proofs.Math.Seq.{paste};
 ghost use Rattle.packet_gather.specs.Gather.{lack_of, open_of, gain_of, Holds, Taken};
 
-use numbers::{Number, lower};
 use packet::Kind;
 
 // The first `count` bytes of `from`, to `receive` from `at` on. A serial line brings one at a time, which needs no loop.
@@ -25,10 +24,9 @@ fn place(receive: &mut [u8], at: usize, from: &[u8], count: usize)
 fn lacking(packet: &[u8]) -> usize
     ensures { result ≡ lack_of packet.now }
 {
-    let length = numbers::read_two(packet, 1);
-    match length {
-        Number::CutShort => 0,
-        Number::Is(n) => {
+    match numbers::read::<u16>(packet, 1) {
+        None => 0,
+        Some(n) => {
             let last = n as usize + 4;
             if packet.len() < last {
                 return last - packet.len();
@@ -66,7 +64,7 @@ pub fn gather(kind: Kind, held: usize, receive: &mut [u8], input: &[u8]) -> usiz
     requires { Holds kind held receive.old }
     ensures { Taken kind held input.now result receive.old receive.new }
 {
-    let taken = lower(gain(kind, &receive[..held], input), input.len());
+    let taken = gain(kind, &receive[..held], input).min(input.len());
     place(receive, held, input, taken);
     taken
 }

@@ -12,10 +12,10 @@ pub fn area_message(area: Area) -> [u8; 17]
 {
     let mut bytes = [0u8; 17];
     bytes[0] = area.koa;
-    numbers::write_four(&mut bytes, 1, area.sad);
-    numbers::write_four(&mut bytes, 5, area.ead);
-    numbers::write_four(&mut bytes, 9, area.eau);
-    numbers::write_four(&mut bytes, 13, area.wau);
+    numbers::write(&mut bytes, 1, area.sad);
+    numbers::write(&mut bytes, 5, area.ead);
+    numbers::write(&mut bytes, 9, area.eau);
+    numbers::write(&mut bytes, 13, area.wau);
     bytes
 }
 
@@ -24,10 +24,10 @@ pub fn signature_message(profile: Profile) -> [u8; 12]
     ensures { result ≡ signature_message profile }
 {
     let mut bytes = [0u8; 12];
-    numbers::write_four(&mut bytes, 0, profile.sci);
-    numbers::write_four(&mut bytes, 4, profile.rmb);
+    numbers::write(&mut bytes, 0, profile.sci);
+    numbers::write(&mut bytes, 4, profile.rmb);
     bytes[8] = profile.noa;
     bytes[9] = profile.typ;
-    numbers::write_two(&mut bytes, 10, profile.bfv);
+    numbers::write(&mut bytes, 10, profile.bfv);
     bytes
 }

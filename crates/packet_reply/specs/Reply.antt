@@ -1,9 +1,8 @@
 -- Replies: status and data packets.
-use Rattle.std.specs.Prelude.{cond, List, [], ◌∷◌, ℕ, ◌+◌, ltb}
-use Rattle.verdict.specs.declared.Verdict.{Verdict}
-use Rattle.verdict.specs.declared.Verdict.TheVariants.{Granted, Refused}
+use Rattle.std.specs.Prelude.{cond, List, [], ◌∷◌, ℕ, ◌+◌, ltb, Ok, Err}
 use Rattle.verdict.specs.Code.{status_of}
 use Rattle.packet.specs.declared.Kind.TheVariants.{Data}
+use Rattle.verdict.specs.Check.{Verdict}
 use Rattle.packet.specs.Packet.{frame}
 
 -- bit 7 set
@@ -12,8 +11,8 @@ marked n = cond (ltb n 128) (n + 128) n
 
 -- RES: the request's own COM or RES if granted, otherwise with bit 7 set
 abbrev pub res_of : ℕ → Verdict → ℕ
-res_of request Granted = request
-res_of request (Refused reason) = marked request
+res_of request (Ok tt) = request
+res_of request (Err reason) = marked request
 
 -- what a status reply holds between length and SUM
 abbrev pub status_contents : ℕ → Verdict → List ℕ

@@ -14,8 +14,8 @@ pub fn res(request: u8, verdict: Verdict) -> u8
     ensures { result ≡ res_of request verdict }
 {
     match verdict {
-        Verdict::Granted => request,
-        Verdict::Refused(_) => {
+        Ok(()) => request,
+        Err(_) => {
             if request < 128 {
                 request + 128
             } else {
@@ -25,15 +25,15 @@ pub fn res(request: u8, verdict: Verdict) -> u8
     }
 }
 
-// A data packet at the front of the buffer: how many bytes it has; 0 where it is too long or has no room, and then nothing is written.
-pub fn put_data(buffer: &mut [u8], res: u8, bytes: &[u8]) -> usize
+// A data packet at the front of the buffer: how many bytes it has; `None` where it is too long or has no room, and then nothing is written.
+pub fn put_data(buffer: &mut [u8], res: u8, bytes: &[u8]) -> Option<usize>
     ensures { Framed Data (res ∷ bytes.now) buffer.old buffer.new result }
 {
     packet::put_frame(buffer, Kind::Data, res, bytes)
 }
 
 // A status reply at the front of the buffer: RES by the request's COM or RES, and STS by the verdict.
-pub fn put_status(buffer: &mut [u8], request: u8, verdict: Verdict) -> usize
+pub fn put_status(buffer: &mut [u8], request: u8, verdict: Verdict) -> Option<usize>
     ensures { Framed Data (status_contents request verdict) buffer.old buffer.new result }
 {
     let bytes = [verdict::status(verdict)];

@@ -11,11 +11,11 @@ use denote.Shadow.{shadow}
 use denote.Struct.Declared.{row}
 use Rattle.profile.specs.declared.Area.{Area}
 use Rattle.profile.specs.declared.Profile.{Profile}
-use Rattle.profile.specs.declared.Place.TheVariants.{Nowhere}
 use Rattle.profile.specs.Areas.{entries, areas_of, no_area, size_of}
 use Rattle.profile.specs.Places.{place_from, place_of}
 use Rattle.profile.specs.contracts.Area as area
 use Rattle.profile.specs.contracts.Profile as profile
+use Rattle.std.specs.Prelude.{None}
 use Rattle.profile.proofs.Places.{inside_not}
 
 -- every entry of a table ends below an address
@@ -34,7 +34,7 @@ pub owned_below : (p : Profile) (vs : List Val) → Is (row profile.the_type) p 
 owned_below p vs h = let a = h.1.1.0 in each_below p.areas a.0 a.1.1
 
 -- an address behind the last one of every entry lies in none
-place_behind : (s x : ℕ) (table : List Area) → EndsBelow s table → s ≤ x → (n i base : ℕ) → place_from base (entries i n table) x ≡ Nowhere
+place_behind : (s x : ℕ) (table : List Area) → EndsBelow s table → s ≤ x → (n i base : ℕ) → place_from base (entries i n table) x ≡ None
 unfolding place_from entries
 place_behind s x table below h zero i base = refl
 place_behind s x table below h (suc n) i base =
@@ -42,5 +42,5 @@ place_behind s x table below h (suc n) i base =
     let b = below i in
     rw (inside_not a x (omega arith)) (place_behind s x table below h n (i + 1) (base + size_of a))
 
-pub place_beyond : (p : Profile) (x : ℕ) → EndsBelow 4294967296 p.areas → 4294967296 ≤ x → place_of (areas_of p) x ≡ Nowhere
+pub place_beyond : (p : Profile) (x : ℕ) → EndsBelow 4294967296 p.areas → 4294967296 ≤ x → place_of (areas_of p) x ≡ None
 place_beyond p x below h = place_behind 4294967296 x p.areas below h (min p.noa 8) 0 0

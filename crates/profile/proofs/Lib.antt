@@ -1,3 +1,4 @@
 pub mod Beyond
 pub mod Places
+pub mod Search
 pub mod Table

@@ -9,9 +9,9 @@ use native.Mathlib.Omega.{arith}
 use borrow.Author.Tests.{le-leb, lt-leb}
 use Rattle.profile.specs.declared.Area.{Area}
 use Rattle.profile.specs.declared.Spot.{Spot}
-use Rattle.profile.specs.declared.Place.TheVariants.{In, Nowhere}
 use Rattle.profile.specs.Areas.{size_of, tally, total_of, inside}
-use Rattle.profile.specs.Places.{place_from, place_of, offset_in}
+use Rattle.profile.specs.Places.{place_from, place_of, offset_in, PlacedBelow, Bounded}
+use Rattle.std.specs.Prelude.{Option, Some, None}
 use Rattle.profile.proofs.Table.{inside_bounds}
 
 -- an address between an area's ends lies in it
@@ -31,14 +31,14 @@ abbrev Found : ℕ → List Area → ℕ → Spot → Type 0
 Found base [] x spot = ⊥
 Found base (a ∷ more) x spot = ((inside a x ≡ true) × (spot_at base a ≡ spot)) ⊎ ((inside a x ≡ false) × Found (base + size_of a) more x spot)
 
-found : (base : ℕ) (areas : List Area) (x : ℕ) (spot : Spot) → place_from base areas x ≡ In spot → Found base areas x spot
+found : (base : ℕ) (areas : List Area) (x : ℕ) (spot : Spot) → place_from base areas x ≡ Some spot → Found base areas x spot
 unfolding place_from
 found base [] x spot e = let z : ◌≡◌ {A = ℕ} 0 1 = cc in absurd (omega arith)
 found base (a ∷ more) x spot e = go (inside a x) refl (found (base + size_of a) more x spot)
   where
-    go : (t : Bool) → inside a x ≡ t → (place_from (base + size_of a) more x ≡ In spot → Found (base + size_of a) more x spot) → Found base (a ∷ more) x spot
+    go : (t : Bool) → inside a x ≡ t → (place_from (base + size_of a) more x ≡ Some spot → Found (base + size_of a) more x spot) → Found base (a ∷ more) x spot
     go true i later =
-        let here : In (spot_at base a) ≡ In spot = rw i at e in
+        let here : Some (spot_at base a) ≡ Some spot = rw i at e in
         let it : spot_at base a ≡ spot = cc in
         inl (i, it)
     go false i later = inr (i, later (rw i at e))
@@ -49,18 +49,25 @@ inside_found base [] x spot x3 = elim x3 [ ]
 inside_found base (a ∷ more) x spot (inl here) = subst (λ (s : Spot). inside s.area x ≡ true) here.1 here.0
 inside_found base (a ∷ more) x spot (inr later) = inside_found (base + size_of a) more x spot later.1
 
-pub found_inside : (base : ℕ) (areas : List Area) (x : ℕ) (spot : Spot) → place_from base areas x ≡ In spot → inside spot.area x ≡ true
+pub found_inside : (base : ℕ) (areas : List Area) (x : ℕ) (spot : Spot) → place_from base areas x ≡ Some spot → inside spot.area x ≡ true
 found_inside base areas x spot e = inside_found base areas x spot (found base areas x spot e)
 
+-- the bounds of a place: those of its area, and that of its base
+pub bounded : (areas : List Area) (x : ℕ) (r : Option Spot) → r ≡ place_of areas x → PlacedBelow r → Bounded x r
+bounded areas x (Some spot) e b =
+    let ends = inside_bounds spot.area x (found_inside 0 areas x spot (sym e)) in
+    (ends.0, ends.1, b)
+bounded areas x None e b = tt
+
 -- an address that lies in one of the areas has a place
-pub has_place : (base : ℕ) (areas : List Area) (x : ℕ) (a : Area) → Memᴰ a areas → inside a x ≡ true → place_from base areas x ≡ Nowhere → ⊥
+pub has_place : (base : ℕ) (areas : List Area) (x : ℕ) (a : Area) → Memᴰ a areas → inside a x ≡ true → place_from base areas x ≡ None → ⊥
 unfolding place_from
 has_place base [] x a m i e = Memᴰ.not-nil m
 has_place base (b ∷ more) x a m i e = go (inside b x) refl (Memᴰ.cases_cons m) (has_place (base + size_of b) more x a)
   where
-    go : (t : Bool) → inside b x ≡ t → (a ≡ b) ⊎ Memᴰ a more → (Memᴰ a more → inside a x ≡ true → place_from (base + size_of b) more x ≡ Nowhere → ⊥) → ⊥
+    go : (t : Bool) → inside b x ≡ t → (a ≡ b) ⊎ Memᴰ a more → (Memᴰ a more → inside a x ≡ true → place_from (base + size_of b) more x ≡ None → ⊥) → ⊥
     go true j w later =
-        let here : In (spot_at base b) ≡ Nowhere = rw j at e in
+        let here : Some (spot_at base b) ≡ None = rw j at e in
         let z : ◌≡◌ {A = ℕ} 0 1 = cc in
         omega arith
     go false j (inl same) later =
@@ -75,8 +82,8 @@ found_member base (a ∷ more) x spot (inl here) = Memᴰ.head (ap (λ (s : Spot
 found_member base (a ∷ more) x spot (inr later) = Memᴰ.tail (found_member (base + size_of a) more x spot later.1)
 
 -- where one address of an area was found in it, the area's other addresses have a place
-pub area_has_place : (base : ℕ) (areas : List Area) (x y : ℕ) (spot : Spot) → place_from base areas x ≡ In spot → inside spot.area y ≡ true
-    → place_from base areas y ≡ Nowhere → ⊥
+pub area_has_place : (base : ℕ) (areas : List Area) (x y : ℕ) (spot : Spot) → place_from base areas x ≡ Some spot → inside spot.area y ≡ true
+    → place_from base areas y ≡ None → ⊥
 area_has_place base areas x y spot e = has_place base areas y spot.area (found_member base areas x spot (found base areas x spot e))
 
 -- a place in these areas: behind the bytes before them, and before the bytes behind them
@@ -95,7 +102,7 @@ between base (a ∷ more) x spot (inr later) =
     record { from = omega arith; below = omega arith }
 
 -- every place lies below the image's length
-pub below_total : (areas : List Area) (x : ℕ) (spot : Spot) → place_of areas x ≡ In spot → offset_in spot x < total_of areas
+pub below_total : (areas : List Area) (x : ℕ) (spot : Spot) → place_of areas x ≡ Some spot → offset_in spot x < total_of areas
 below_total areas x spot e = omega (arith, (between 0 areas x spot (found 0 areas x spot e)).below)
 
 -- and so does the end of the area in which an address was found: the image has all of it
@@ -105,7 +112,7 @@ area_between base [] x spot x3 = elim x3 [ ]
 area_between base (a ∷ more) x spot (inl here) = subst (λ (s : Spot). s.base + size_of s.area ≤ base + total_of (a ∷ more)) here.1 (omega arith)
 area_between base (a ∷ more) x spot (inr later) = omega (arith, area_between (base + size_of a) more x spot later.1)
 
-pub area_below_total : (areas : List Area) (x : ℕ) (spot : Spot) → place_of areas x ≡ In spot → spot.base + size_of spot.area ≤ total_of areas
+pub area_below_total : (areas : List Area) (x : ℕ) (spot : Spot) → place_of areas x ≡ Some spot → spot.base + size_of spot.area ≤ total_of areas
 area_below_total areas x spot e = omega (arith, area_between 0 areas x spot (found 0 areas x spot e))
 
 -- an address of the first area, and one that was found behind it
@@ -129,7 +136,7 @@ same_address base (a ∷ more) x y s t (inr f) (inl g) e = absurd (apart base a 
 same_address base (a ∷ more) x y s t (inr f) (inr g) e = same_address (base + size_of a) more x y s t f.1 g.1 e
 
 -- two addresses never have the same place
-pub one_place : (base : ℕ) (areas : List Area) (x y : ℕ) (s t : Spot) → place_from base areas x ≡ In s → place_from base areas y ≡ In t
+pub one_place : (base : ℕ) (areas : List Area) (x y : ℕ) (s t : Spot) → place_from base areas x ≡ Some s → place_from base areas y ≡ Some t
     → offset_in s x ≡ offset_in t y → x ≡ y
 one_place base areas x y s t e f = same_address base areas x y s t (found base areas x s e) (found base areas y t f)
 
@@ -147,23 +154,23 @@ found_above low base (a ∷ more) x spot h (inr later) =
     omega arith
 
 found_again : (low base : ℕ) (areas : List Area) (x y : ℕ) (spot : Spot) → Above low areas → Found base areas x spot → inside spot.area y ≡ true
-    → place_from base areas y ≡ In spot
+    → place_from base areas y ≡ Some spot
 unfolding Above place_from
 found_again low base [] x y spot h x5 i = elim x5 [ ]
 found_again low base (a ∷ more) x y spot h (inl here) i =
     let j : inside a y ≡ true = subst (λ (s : Spot). inside s.area y ≡ true) (sym here.1) i in
-    rw j (ap In here.1)
+    rw j (ap Some here.1)
 found_again low base (a ∷ more) x y spot h (inr later) i =
     let up = found_above (a.ead + 1) (base + size_of a) more x spot h.2 later.1 in
     let b = inside_bounds spot.area y i in
     rw (inside_not a y (omega arith)) (found_again (a.ead + 1) (base + size_of a) more x y spot h.2 later.1 i)
 
 -- where the areas ascend, an area's addresses are all found in it
-pub same_area : (low base : ℕ) (areas : List Area) (x y : ℕ) (spot : Spot) → Above low areas → place_from base areas x ≡ In spot → inside spot.area y ≡ true
-    → place_from base areas y ≡ In spot
+pub same_area : (low base : ℕ) (areas : List Area) (x y : ℕ) (spot : Spot) → Above low areas → place_from base areas x ≡ Some spot → inside spot.area y ≡ true
+    → place_from base areas y ≡ Some spot
 same_area low base areas x y spot h e = found_again low base areas x y spot h (found base areas x spot e)
 
 -- the same, with the area's ends in place of the test
-pub whole_area : (low base : ℕ) (areas : List Area) (x : ℕ) (spot : Spot) → Above low areas → place_from base areas x ≡ In spot
-    → (y : ℕ) → spot.area.sad ≤ y → y ≤ spot.area.ead → place_from base areas y ≡ In spot
+pub whole_area : (low base : ℕ) (areas : List Area) (x : ℕ) (spot : Spot) → Above low areas → place_from base areas x ≡ Some spot
+    → (y : ℕ) → spot.area.sad ≤ y → y ≤ spot.area.ead → place_from base areas y ≡ Some spot
 whole_area low base areas x spot h e y from to = same_area low base areas x y spot h e (inside_within spot.area y from to)

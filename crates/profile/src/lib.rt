@@ -1,13 +1,13 @@
 // The profile and the image: up to eight areas, and where the byte at an address stands.
 #![tactic(auto)]
 
-ghost use Rattle.std.specs.Prelude.{◌≡◌, ◌≤◌, min};
+ghost use Rattle.std.specs.Prelude.{◌≡◌, ◌≤◌, min, length};
 ghost use Rattle.profile.specs.Areas.{areas_of, size_of, inside};
-ghost use Rattle.profile.specs.Places.{place_of, unit_at, Located};
+ghost use Rattle.profile.specs.Places.{place_of, unit_at, FirstWhere, Located};
 
 #[derive(Clone, Copy)]
 pub struct Area {
-    // 0 user, 1 data, 2 config
+    // 0 user, 1 data, 2 config: a number, since bytes from C may hold any, and `Rule::Kind` refuses the others
     pub koa: u8,
     pub sad: u32,
     // inclusive
@@ -24,6 +24,7 @@ pub struct Window {
     pub high: u32,
 }
 
+// A table and its count, apart: the scope decides this form, and C may give any count.
 #[derive(Clone, Copy)]
 pub struct Profile {
     pub areas: [Area; 8],
@@ -42,70 +43,67 @@ pub struct Spot {
     pub base: usize,
 }
 
-#[derive(Clone, Copy)]
-pub enum Place {
-    In(Spot),
-    Nowhere,
-}
-
 // How many entries of the table are in use: NOA, and never more than there are.
 pub fn used(noa: u8) -> usize
     ensures { (result ≡ min noa 8) × (result ≤ 8) }
 {
-    if noa < 8 { noa as usize } else { 8 }
+    usize::from(noa).min(8)
+}
+
+// The entries of the table that are in use.
+pub fn areas_in_use(profile: &Profile) -> &[Area]
+    ensures are { result.now ≡ areas_of profile.now }
+    ensures few { length result.now ≤ 8 }
+{
+    &profile.areas[..used(profile.noa)]
 }
 
 // The area's size in bytes; none where it ends before it starts.
 pub fn size(area: Area) -> usize
     ensures { (result ≡ size_of area) × (result ≤ 4294967296) }
 {
-    if area.ead < area.sad {
-        return 0;
-    }
-    (area.ead - area.sad) as usize + 1
+    (area.ead as usize + 1).saturating_sub(area.sad as usize)
 }
 
 // Whether the address lies in the area.
+#[tactic(auto, unfolding(crate::specs::Areas::inside))]
 pub fn holds(area: Area, address: u32) -> bool
     ensures { result ≡ inside area address }
 {
-    if address < area.sad {
-        return false;
+    area.sad <= address && address <= area.ead
+}
+
+// The first area in use that passes the test, with its place in the image.
+pub fn first_where<F: Fn(Area) -> bool>(profile: &Profile, test: F) -> Option<Spot>
+    requires { F.IsAlwaysCallable test }
+    ensures { FirstWhere (F.post test) (areas_of profile.now) result }
+{
+    let mut base: usize = 0;
+    for area in areas_in_use(profile) {
+        if test(*area) {
+            return Some(Spot { area: *area, base });
+        }
+        base += size(*area);
     }
-    address <= area.ead
+    None
 }
 
 // The first area in use that holds the address, with its place in the image.
-pub fn locate(profile: Profile, address: u32) -> Place
+pub fn locate(profile: Profile, address: u32) -> Option<Spot>
     ensures { Located (areas_of profile) address result }
 {
-    let n = used(profile.noa);
-    let mut base: usize = 0;
-    let mut i = 0;
-    while i < n {
-        let area = profile.areas[i];
-        if holds(area, address) {
-            return Place::In(Spot { area, base });
-        }
-        base += size(area);
-        i += 1;
-    }
-    Place::Nowhere
+    first_where(&profile, |area| holds(area, address))
 }
 
-// WAU of the area that holds an address; 0 where none does. No area has an address from 2^32 on.
+// WAU of the area that holds an address; 0 where none does, as the definition says, and no answer rests on it (`unit_there`). No area has an address from 2^32 on.
 pub fn unit_at(profile: Profile, address: usize) -> u32
     ensures { result ≡ unit_at (place_of (areas_of profile) address) }
 {
-    if 0xFFFF_FFFF < address {
+    let Ok(address) = u32::try_from(address) else {
         return 0;
-    }
-    let place = locate(profile, address as u32);
-    match place {
-        Place::Nowhere => 0,
-        Place::In(spot) => {
-            let area = spot.area;
-            area.wau
-        }
+    };
+    match locate(profile, address) {
+        None => 0,
+        Some(spot) => spot.area.wau,
     }
 }

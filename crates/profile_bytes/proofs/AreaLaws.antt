@@ -1,36 +1,17 @@
--- Areas that are read and stored one at a time are those of the bytes, and so is one in a part of its own. Assumes nothing.
-use mathlib.Core.List.{List, [], ◌∷◌, ◌++◌}
+-- An area in a part of its own is the one in the bytes. Assumes nothing.
+use mathlib.Core.List.{List, ◌∷◌}
 use mathlib.Core.Path.{◌≡◌, refl, sym, ap, ◌∙◌}
-use Prim.Native.Nat.{ℕ, zero, suc, ◌+◌, ◌-◌, ◌*◌, ◌<◌, ◌≤◌}
+use Prim.Native.Nat.{ℕ, zero, suc, ◌+◌, ◌-◌, ◌<◌, ◌≤◌}
 use native.Mathlib.Nat.{add-zero}
-use native.Mathlib.Numerals.{add-one}
 use native.Mathlib.Omega.{arith}
-use lib.ListN.{length, take, drop, get_or, set, length-drop}
-use lib.Seq.{take_all, take-suc-set, length-take-le, get_or-take, get_or-drop}
+use lib.ListN.{length, take, drop, get_or, length-drop}
+use lib.Seq.{length-take-le, get_or-take, get_or-drop}
 use Rattle.numbers.specs.Bytes.{number}
 use Rattle.profile.specs.declared.Area.{Area}
 use Rattle.packet_fields.specs.Fields.{four_at, bytes_from}
 use Rattle.profile_bytes.specs.Profile.{area_at, areas_from}
 use Rattle.packet_fields.proofs.Laws.{value_read}
 use Rattle.packet_fields.proofs.Spelled.{from_part}
-
--- one area more
-areas_more : (n at : ℕ) (bs : List ℕ) → areas_from (n + 1) at bs ≡ areas_from n at bs ++ (area_at bs (at + 17 * n) ∷ [])
-unfolding areas_from
-areas_more zero at bs = rw (add-zero at) refl
-areas_more (suc n) at bs =
-    let e : suc n + 1 ≡ suc (n + 1) = omega arith in
-    let f : at + 17 * suc n ≡ at + 17 + 17 * n = omega arith in
-    rw (e, f) (ap (λ (t : List Area). area_at bs at ∷ t) (areas_more n (at + 17) bs))
-
-pub stored_more : (bs : List ℕ) (d : List Area) (at i : ℕ) (a : Area) → take i d ≡ areas_from i at bs → i < length d
-    → a ≡ area_at bs (at + 17 * i) → take (i + 1) (set d i a) ≡ areas_from (i + 1) at bs
-stored_more bs d at i a done h e = rw (areas_more i at bs, add-one i, take-suc-set d i a h, done, e) refl
-
-pub stored_all : (bs : List ℕ) (d : List Area) (at i n : ℕ) → take i d ≡ areas_from i at bs → i ≡ n → length d ≡ n → d ≡ areas_from n at bs
-stored_all bs d at i n done e h =
-    let k : length d ≤ i = omega arith in
-    sym (take_all i d k) ∙ done ∙ ap (λ (j : ℕ). areas_from j at bs) e
 
 -- bytes, and a number, of a part
 byte_part : (m at : ℕ) (bs : List ℕ) (k : ℕ) → k < m → get_or (take m (drop at bs)) k 0 ≡ get_or bs (at + k) 0

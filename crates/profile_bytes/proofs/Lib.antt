@@ -1,3 +1,2 @@
 pub mod AreaLaws
-pub mod ProfileLaws
 pub mod ProfileRoundTrip

@@ -5,21 +5,17 @@ ghost use Rattle.std.specs.Prelude.{◌≡◌, length};
 ghost use Rattle.packet_fields.specs.Fields.{two_at};
 ghost use Rattle.profile_bytes.specs.Profile.{profile_length, area_at, areas_from, fields_in, no_profile, profile_in};
 
-use numbers::Number;
 use profile::{Area, Profile, Window};
 
 // How many bytes a profile has.
 pub const PROFILE_LENGTH: usize = 156;
 
-// The number in two bytes.
+// The number in two bytes; 0 where they are not there, as `packet_fields::four_at` has it.
+#[tactic(auto, unfolding(packet_fields::specs::Fields::two_at))]
 pub fn two_at(bytes: &[u8], at: usize) -> u16
     ensures { result ≡ two_at bytes.now at }
 {
-    let number = numbers::read_two(bytes, at);
-    match number {
-        Number::Is(n) => n as u16,
-        Number::CutShort => 0,
-    }
+    numbers::read::<u16>(bytes, at).unwrap_or(0)
 }
 
 // The area in 17 bytes of its own.
@@ -35,7 +31,8 @@ pub fn area_of(part: &[u8]) -> Area
     }
 }
 
-// The eight areas in 156 bytes.
+// The eight areas in 156 bytes. Stays written out: over places reckoned in a loop the length was tested for each number (docs/BENCHMARKS.md).
+#[tactic(auto, using(crate::proofs::AreaLaws::part_more), unfolding(crate::specs::Profile::areas_from))]
 fn areas_whole(profile: &[u8]) -> [Area; 8]
     requires { length profile.now ≡ profile_length }
     ensures { result ≡ areas_from 8 20 profile.now }
@@ -53,6 +50,7 @@ fn areas_whole(profile: &[u8]) -> [Area; 8]
 }
 
 // The profile in 156 bytes: each place is known, so nothing is tested.
+#[tactic(auto, unfolding(crate::specs::Profile::fields_in))]
 fn whole(profile: &[u8]) -> Profile
     requires { length profile.now ≡ profile_length }
     ensures { result ≡ fields_in profile.now }
@@ -94,11 +92,13 @@ fn none() -> Profile
 }
 
 // The profile in the bytes; bytes of another length are none.
+#[tactic(auto, unfolding(crate::specs::Profile::profile_in))]
 pub fn profile_in(bytes: &[u8]) -> Profile
     ensures { result ≡ profile_in bytes.now }
 {
     if bytes.len() == PROFILE_LENGTH {
-        return whole(bytes);
+        whole(bytes)
+    } else {
+        none()
     }
-    none()
 }

@@ -9,14 +9,11 @@ use native.Mathlib.Omega.{arith}
 use lib.Dec.{leb, ltb, eqb}
 use borrow.Author.Tests.{ltb-false, leb-false, eqb-true, eqb-false, not-false, le-ltb, lt-leb, eq-eqb, ne_eqb}
 use Rattle.verdict.specs.declared.Reason.TheVariants.{Reversed, StartNowhere}
-use Rattle.verdict.specs.declared.Verdict.TheVariants.{Granted}
 use Rattle.verdict.specs.Check.{◌gives◌, first_fault, NoneApplies, verdict_of}
 use Rattle.verdict.proofs.FirstFault.{clear, grants, granted_clear}
 use Rattle.profile.specs.declared.Area.{Area}
 use Rattle.profile.specs.declared.Window.{Window}
 use Rattle.profile.specs.declared.Spot.{Spot}
-use Rattle.profile.specs.declared.Place.{Place}
-use Rattle.profile.specs.declared.Place.TheVariants.{In, Nowhere}
 use Rattle.profile.specs.Areas.{inside}
 use Rattle.profile.specs.Places.{place_of}
 use Rattle.profile.proofs.Table.{inside_bounds}
@@ -24,6 +21,7 @@ use Rattle.profile.proofs.Places.{found_inside, area_has_place, inside_within}
 use Rattle.profile_ranges.specs.declared.Purpose.{Purpose}
 use Rattle.profile_ranges.specs.declared.Purpose.TheVariants.{Erase, Write, Read}
 use Rattle.profile_ranges.specs.Ranges.{unit_checks, limited, window_checks, change_checks, purpose_checks, nowhere, area_of, end_checks, range_checks, Permitted}
+use Rattle.std.specs.Prelude.{Option, Some, None, Ok}
 use Rattle.profile_ranges.specs.InArea.{InArea, Changeable, Allowed, Lies}
 
 -- that a check does not apply, before what is said of the later ones
@@ -40,9 +38,9 @@ if_limited : (l t : Bool) → (l ≡ true → t ≡ false) → (l && t) ≡ fals
 if_limited true t h = h refl
 if_limited false t h = refl
 
-pub somewhere : (r : Place) → (r ≡ Nowhere → ⊥) → nowhere r ≡ false
-somewhere (In spot) h = refl
-somewhere Nowhere h = absurd (h refl)
+pub somewhere : (r : Option Spot) → (r ≡ None → ⊥) → nowhere r ≡ false
+somewhere (Some spot) h = refl
+somewhere None h = absurd (h refl)
 
 -- the checks of a change, and what a range that passes them is
 module _ (a : Area) (w : Window) (unit s e : ℕ) where
@@ -80,7 +78,7 @@ purpose_passes Write a w s e c = change_passes a w a.wau s e c
 purpose_passes Read a w s e c = tt
 
 module _ (areas : List Area) (w : Window) (purpose : Purpose) (s e : ℕ) where
-  passed : (spot : Spot) → place_of areas s ≡ In spot → Permitted areas w purpose s e
+  passed : (spot : Spot) → place_of areas s ≡ Some spot → Permitted areas w purpose s e
       → (s ≤ e) × (inside spot.area e ≡ true) × Allowed purpose w spot.area s e
   unfolding Permitted range_checks end_checks NoneApplies
   passed spot f p =
@@ -91,7 +89,7 @@ module _ (areas : List Area) (w : Window) (purpose : Purpose) (s e : ℕ) where
       (ltb-false e s n.0, t, purpose_passed purpose spot.area w s e own)
 
   -- a granted range lies in the area in which its start is found
-  pub granted_in : (spot : Spot) → place_of areas s ≡ In spot → Permitted areas w purpose s e → InArea areas s e spot
+  pub granted_in : (spot : Spot) → place_of areas s ≡ Some spot → Permitted areas w purpose s e → InArea areas s e spot
   granted_in spot f p =
       let g = passed spot f p in
       record {
@@ -102,7 +100,7 @@ module _ (areas : List Area) (w : Window) (purpose : Purpose) (s e : ℕ) where
       }
 
   -- and that area allows it
-  pub granted_allowed : (spot : Spot) → place_of areas s ≡ In spot → Permitted areas w purpose s e → Allowed purpose w spot.area s e
+  pub granted_allowed : (spot : Spot) → place_of areas s ≡ Some spot → Permitted areas w purpose s e → Allowed purpose w spot.area s e
   granted_allowed spot f p = (passed spot f p).2
 
   passes : (spot : Spot) → InArea areas s e spot → Allowed purpose w spot.area s e → NoneApplies (range_checks areas w purpose s e)
@@ -126,12 +124,12 @@ module _ (areas : List Area) (w : Window) (purpose : Purpose) (s e : ℕ) where
   unfolding Permitted range_checks NoneApplies
   in_area_lem p = go (place_of areas s) refl (clear (range_checks areas w purpose s e) p).1.0
     where
-      go : (r : Place) → place_of areas s ≡ r → nowhere r ≡ false → Lies areas w purpose s e
-      go (In spot) f h = record { spot = spot; in_area = granted_in spot f p; allowed = granted_allowed spot f p }
-      go Nowhere f h = let z : ◌≡◌ {A = ℕ} 0 1 = cc in absurd (omega arith)
+      go : (r : Option Spot) → place_of areas s ≡ r → nowhere r ≡ false → Lies areas w purpose s e
+      go (Some spot) f h = record { spot = spot; in_area = granted_in spot f p; allowed = granted_allowed spot f p }
+      go None f h = let z : ◌≡◌ {A = ℕ} 0 1 = cc in absurd (omega arith)
 
   -- every address of a granted range has a place
-  pub granted_placed : Permitted areas w purpose s e → (x : ℕ) → s ≤ x → x ≤ e → place_of areas x ≡ Nowhere → ⊥
+  pub granted_placed : Permitted areas w purpose s e → (x : ℕ) → s ≤ x → x ≤ e → place_of areas x ≡ None → ⊥
   granted_placed p x from to =
       let l : Lies areas w purpose s e = in_area_lem p in
       let i : inside l.spot.area x ≡ true = inside_within l.spot.area x (omega (arith, l.in_area.starts)) (omega (arith, l.in_area.ends)) in
@@ -142,12 +140,12 @@ module _ (areas : List Area) (w : Window) (purpose : Purpose) (s e : ℕ) where
   granted_exactly = (in_area_lem, λ l. grants_in_lem l.spot l.in_area l.allowed)
 
   -- the verdict tells which ranges are granted
-  pub verdict_exactly : (verdict_of (first_fault (range_checks areas w purpose s e)) ≡ Granted) ↔ Permitted areas w purpose s e
+  pub verdict_exactly : (verdict_of (first_fault (range_checks areas w purpose s e)) ≡ Ok tt) ↔ Permitted areas w purpose s e
   unfolding Permitted
   verdict_exactly = (granted_clear (first_fault (range_checks areas w purpose s e)), λ p. ap verdict_of p)
 
 -- where the start is nowhere no area is looked at: the first fault is the same with any
-pub start_area : (areas : List Area) (w : Window) (purpose : Purpose) (s e : ℕ) → place_of areas s ≡ Nowhere → (a : Area)
+pub start_area : (areas : List Area) (w : Window) (purpose : Purpose) (s e : ℕ) → place_of areas s ≡ None → (a : Area)
     → first_fault ((ltb e s gives Reversed) ∷ (nowhere (place_of areas s) gives StartNowhere) ∷ end_checks areas a w purpose s e)
     ≡ first_fault (range_checks areas w purpose s e)
 unfolding range_checks first_fault
@@ -171,8 +169,8 @@ changeable_later w koa unit s e n d c =
     }
 
 -- what is left of a granted range, where all addresses of its area are found in it
-module _ (areas : List Area) (w : Window) (s e n : ℕ) (spot : Spot) (f : place_of areas s ≡ In spot)
-    (same : (x : ℕ) → spot.area.sad ≤ x → x ≤ spot.area.ead → place_of areas x ≡ In spot) (h : s + n ≤ e) where
+module _ (areas : List Area) (w : Window) (s e n : ℕ) (spot : Spot) (f : place_of areas s ≡ Some spot)
+    (same : (x : ℕ) → spot.area.sad ≤ x → x ≤ spot.area.ead → place_of areas x ≡ Some spot) (h : s + n ≤ e) where
   pub in_area_later : InArea areas s e spot → InArea areas (s + n) e spot
   in_area_later i =
       let low : spot.area.sad ≤ s + n = omega arith in

@@ -1,9 +1,8 @@
 -- What a granted range of addresses is: it lies in one area, and a change of it is made of whole units inside the window.
-use Rattle.std.specs.Prelude.{true, List, ◌≡◌, ℕ, ◌+◌, ◌%◌, ◌≤◌, ◌<◌}
+use Rattle.std.specs.Prelude.{true, List, ◌≡◌, ℕ, ◌+◌, ◌%◌, ◌≤◌, ◌<◌, Some}
 use Rattle.profile.specs.declared.Area.{Area}
 use Rattle.profile.specs.declared.Window.{Window}
 use Rattle.profile.specs.declared.Spot.{Spot}
-use Rattle.profile.specs.declared.Place.TheVariants.{In}
 use Rattle.profile.specs.Places.{place_of}
 use Rattle.profile_ranges.specs.declared.Purpose.{Purpose}
 use Rattle.profile_ranges.specs.declared.Purpose.TheVariants.{Erase, Write, Read}
@@ -12,11 +11,11 @@ use Rattle.profile_ranges.specs.Ranges.{limited}
 -- the address is found in area a
 pub record StartsIn (areas : List Area) (s : ℕ) (a : Area) : Type 0 where
   pub base : ℕ
-  pub found : place_of areas s ≡ In (record { area = a; base = base })
+  pub found : place_of areas s ≡ Some (record { area = a; base = base })
 
 -- the range lies in the area in which its start is found
 pub record InArea (areas : List Area) (s e : ℕ) (spot : Spot) : Type 0 where
-  pub found : place_of areas s ≡ In spot
+  pub found : place_of areas s ≡ Some spot
   pub ordered : s ≤ e
   pub starts : spot.area.sad ≤ s
   pub ends : e ≤ spot.area.ead

@@ -1,16 +1,14 @@
 -- The checks on a range of addresses, SAD to EAD: D0h, then DAh. Commands and "a state fits" both use them.
-use Rattle.std.specs.Prelude.{Bool, true, false, ◌&&◌, not, List, [], ◌∷◌, ◌++◌, ◌≡◌, ℕ, ◌+◌, ◌%◌, leb, ltb, eqb}
-use Rattle.std.proofs.Math.Option.{none}
+use Rattle.std.specs.Prelude.{Bool, true, false, ◌&&◌, not, List, [], ◌∷◌, ◌++◌, ◌≡◌, ℕ, ◌+◌, ◌%◌, leb, ltb, eqb, None, Option, Some}
 use Rattle.verdict.specs.declared.Reason.{Reason}
 use Rattle.verdict.specs.declared.Reason.TheVariants.{Reversed, StartNowhere, EndNowhere, TwoAreas, NoUnit, StartUnaligned, EndUnaligned, BelowWindow, AboveWindow}
 use Rattle.verdict.specs.Check.{Check, ◌gives◌, first_fault, passes}
 use Rattle.profile.specs.declared.Area.{Area}
 use Rattle.profile.specs.declared.Window.{Window}
-use Rattle.profile.specs.declared.Place.{Place}
-use Rattle.profile.specs.declared.Place.TheVariants.{In, Nowhere}
 use Rattle.profile.specs.Areas.{no_area, inside}
 use Rattle.profile.specs.Places.{place_of}
 use Rattle.profile_ranges.specs.declared.Purpose.{Purpose}
+use Rattle.profile.specs.declared.Spot.{Spot}
 use Rattle.profile_ranges.specs.declared.Purpose.TheVariants.{Erase, Write, Read}
 
 -- the unit is 0, or doesn't divide SAD and EAD + 1
@@ -45,14 +43,14 @@ purpose_checks Read a w s e = []
 unfoldable pub within_of : Area → Window → Purpose → ℕ → ℕ → Bool
 within_of a w purpose s e = inside a e && passes (first_fault (purpose_checks purpose a w s e))
 
-abbrev pub nowhere : Place → Bool
-nowhere (In spot) = false
-nowhere Nowhere = true
+abbrev pub nowhere : Option Spot → Bool
+nowhere (Some spot) = false
+nowhere None = true
 
 -- the area of a place that was found; that of nowhere never decides: proofs/Granted, `start_Area`
-abbrev pub area_of : Place → Area
-area_of (In spot) = spot.area
-area_of Nowhere = no_area
+abbrev pub area_of : Option Spot → Area
+area_of (Some spot) = spot.area
+area_of None = no_area
 
 -- the checks of a range that starts in area a
 unfoldable pub end_checks : List Area → Area → Window → Purpose → ℕ → ℕ → List (Check Reason)
@@ -69,4 +67,4 @@ range_checks areas w purpose s e =
 
 -- a range that is granted
 unfoldable pub Permitted : List Area → Window → Purpose → ℕ → ℕ → Type 0
-Permitted areas w purpose s e = first_fault (range_checks areas w purpose s e) ≡ none
+Permitted areas w purpose s e = first_fault (range_checks areas w purpose s e) ≡ None

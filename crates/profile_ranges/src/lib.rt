@@ -7,7 +7,7 @@ ghost use Rattle.profile.specs.Areas.{areas_of};
 ghost use Rattle.profile_ranges.specs.Ranges.{unit_checks, window_checks, change_checks, purpose_checks, within_of, end_checks, range_checks};
 ghost use Rattle.profile_ranges.specs.InArea.{StartsIn};
 
-use profile::{Area, Place, Profile, Window};
+use profile::{Area, Profile, Window};
 use verdict::{Reason, Verdict};
 
 #[derive(Clone, Copy)]
@@ -18,76 +18,69 @@ pub enum Purpose {
 }
 
 // Whole units: the unit divides SAD and EAD + 1.
+#[tactic(auto, unfolding(verdict::specs::Check::first_fault, crate::specs::Ranges::unit_checks))]
 fn check_units(unit: u32, sad: u32, ead: u32) -> Verdict
     ensures { result ≡ verdict_of (first_fault (unit_checks unit sad ead)) }
 {
     if unit == 0 {
-        return Verdict::Refused(Reason::NoUnit);
+        return Err(Reason::NoUnit);
     }
     if sad % unit != 0 {
-        return Verdict::Refused(Reason::StartUnaligned);
+        return Err(Reason::StartUnaligned);
     }
     let behind = ead as u64 + 1;
     if behind % (unit as u64) != 0 {
-        return Verdict::Refused(Reason::EndUnaligned);
+        return Err(Reason::EndUnaligned);
     }
-    Verdict::Granted
+    Ok(())
 }
 
 // The window limits user areas, where low differs from high.
+#[tactic(auto, unfolding(verdict::specs::Check::first_fault, crate::specs::Ranges::window_checks, crate::specs::Ranges::limited))]
 fn check_window(window: Window, koa: u8, sad: u32, ead: u32) -> Verdict
     ensures { result ≡ verdict_of (first_fault (window_checks window koa sad ead)) }
 {
-    if koa != 0 {
-        return Verdict::Granted;
-    }
-    if window.low == window.high {
-        return Verdict::Granted;
+    if koa != 0 || window.low == window.high {
+        return Ok(());
     }
     if sad < window.low {
-        return Verdict::Refused(Reason::BelowWindow);
+        return Err(Reason::BelowWindow);
     }
     if window.high <= ead {
-        return Verdict::Refused(Reason::AboveWindow);
+        return Err(Reason::AboveWindow);
     }
-    Verdict::Granted
+    Ok(())
 }
 
+#[tactic(auto, using(verdict::proofs::FirstFault::granted_then), unfolding(crate::specs::Ranges::change_checks))]
 fn check_change(area: Area, window: Window, unit: u32, sad: u32, ead: u32) -> Verdict
     ensures { result ≡ verdict_of (first_fault (change_checks area window unit sad ead)) }
 {
-    let units = check_units(unit, sad, ead);
-    match units {
-        Verdict::Refused(reason) => Verdict::Refused(reason),
-        Verdict::Granted => check_window(window, area.koa, sad, ead),
-    }
+    check_units(unit, sad, ead)?;
+    check_window(window, area.koa, sad, ead)
 }
 
+#[tactic(auto, unfolding(verdict::specs::Check::first_fault, crate::specs::Ranges::purpose_checks))]
 fn check_purpose(area: Area, window: Window, purpose: Purpose, sad: u32, ead: u32) -> Verdict
     ensures { result ≡ verdict_of (first_fault (purpose_checks purpose area window sad ead)) }
 {
     match purpose {
         Purpose::Erase => check_change(area, window, area.eau, sad, ead),
         Purpose::Write => check_change(area, window, area.wau, sad, ead),
-        Purpose::Read => Verdict::Granted,
+        Purpose::Read => Ok(()),
     }
 }
 
 // Whether the range from SAD, which lies in the area, to EAD may be asked for.
+#[tactic(auto, using(verdict::proofs::FirstFault::is_granted), unfolding(crate::specs::Ranges::within_of))]
 pub fn within(area: Area, window: Window, purpose: Purpose, sad: u32, ead: u32) -> bool
     ensures { result ≡ within_of area window purpose sad ead }
 {
-    if !profile::holds(area, ead) {
-        return false;
-    }
-    let found = check_purpose(area, window, purpose, sad, ead);
-    match found {
-        Verdict::Granted => true,
-        Verdict::Refused(_) => false,
-    }
+    profile::holds(area, ead) && check_purpose(area, window, purpose, sad, ead).is_ok()
 }
 
 // The range starts in the area. EAD is searched for only where the area does not hold it, to tell why.
+#[tactic(auto, using(crate::proofs::OneSearch::verdict_held), unfolding(verdict::specs::Check::first_fault, crate::specs::Ranges::end_checks))]
 fn check_end(
     profile: Profile,
     area: Area,
@@ -102,14 +95,14 @@ fn check_end(
     if profile::holds(area, ead) {
         return check_purpose(area, window, purpose, sad, ead);
     }
-    let end = profile::locate(profile, ead);
-    match end {
-        Place::Nowhere => Verdict::Refused(Reason::EndNowhere),
-        Place::In(_) => Verdict::Refused(Reason::TwoAreas),
+    match profile::locate(profile, ead) {
+        None => Err(Reason::EndNowhere),
+        Some(_) => Err(Reason::TwoAreas),
     }
 }
 
 // The range SAD to EAD, both inclusive, under the window that holds.
+#[tactic(auto, unfolding(verdict::specs::Check::first_fault, crate::specs::Ranges::range_checks))]
 pub fn check_range(
     profile: Profile,
     window: Window,
@@ -120,14 +113,10 @@ pub fn check_range(
     ensures { result ≡ verdict_of (first_fault (range_checks (areas_of profile) window purpose sad ead)) }
 {
     if ead < sad {
-        return Verdict::Refused(Reason::Reversed);
+        return Err(Reason::Reversed);
     }
-    let start = profile::locate(profile, sad);
-    match start {
-        Place::Nowhere => Verdict::Refused(Reason::StartNowhere),
-        Place::In(spot) => {
-            let area = spot.area;
-            check_end(profile, area, window, purpose, sad, ead)
-        }
-    }
+    let Some(spot) = profile::locate(profile, sad) else {
+        return Err(Reason::StartNowhere);
+    };
+    check_end(profile, spot.area, window, purpose, sad, ead)
 }

@@ -1,39 +1,36 @@
 -- A profile is accepted exactly when it is sound, and then no address lies in two of its areas. Assumes nothing.
 use mathlib.Core.Bool.{Bool, true, false, not}
 use mathlib.Core.List.{List, [], ◌∷◌, ◌++◌}
-use mathlib.Core.Option.{none}
+use Rattle.std.specs.Prelude.{None, Some, Ok}
 use mathlib.Core.Path.{◌≡◌, refl, ap, subst, ◌∙◌}
 use Prim.Native.Nat.{ℕ, zero, suc, ◌+◌, ◌≤◌, ◌<◌}
 use native.Mathlib.Omega.{arith}
 use lib.ListN.{length, get_or}
 use borrow.Author.Tests.{ltb-false, leb-false, eqb-true, not-false, le-ltb, lt-leb, eq-eqb}
 use Rattle.verdict.specs.Check.{first_fault, NoneApplies}
-use Rattle.verdict.proofs.FirstFault.{clear, grants, clear_left, clear_right, fault_right}
+use Rattle.verdict.proofs.FirstFault.{clear, grants, granted_clear, clear_left, clear_right, fault_right}
 use Rattle.profile.specs.declared.Area.{Area}
 use Rattle.profile.specs.declared.Profile.{Profile}
 use Rattle.profile.specs.declared.Spot.{Spot}
-use Rattle.profile.specs.declared.Place.TheVariants.{In}
 use Rattle.profile.specs.Areas.{areas_of, no_area, size_of, inside}
 use Rattle.profile.specs.Places.{place_from}
 use Rattle.profile.proofs.Table.{inside_bounds}
-use Rattle.profile_rules.specs.declared.Acceptance.TheVariants.{Acceptable}
 use Rattle.profile_rules.specs.Rules.{acceptance_of, head_checks, area_checks, table_checks, tail_checks, profile_checks, Accepted}
 use Rattle.profile_rules.specs.Sound.{SoundArea, Ascending, Sound}
-use Rattle.profile_rules.proofs.Laws.{acceptable_none}
 
 -- the answer says whether the profile is accepted
 module _ (p : Profile) where
-  pub judged : acceptance_of (first_fault (profile_checks p)) ≡ Acceptable → Accepted p
+  pub judged : acceptance_of (first_fault (profile_checks p)) ≡ Ok tt → Accepted p
   unfolding Accepted
-  judged e = acceptable_none (first_fault (profile_checks p)) e
+  judged e = granted_clear (first_fault (profile_checks p)) e
 
-  pub acceptable : Accepted p → acceptance_of (first_fault (profile_checks p)) ≡ Acceptable
+  pub acceptable : Accepted p → acceptance_of (first_fault (profile_checks p)) ≡ Ok tt
   unfolding Accepted
   acceptable e = ap acceptance_of e
 
 -- one area: none of its checks applies exactly where it is sound
 module _ (i free : ℕ) (a : Area) where
-  area_sound : first_fault (area_checks i free a) ≡ none → SoundArea free a
+  area_sound : first_fault (area_checks i free a) ≡ None → SoundArea free a
   unfolding area_checks NoneApplies
   area_sound e =
       let n = clear (area_checks i free a) e in
@@ -47,7 +44,7 @@ module _ (i free : ℕ) (a : Area) where
         short_write = ltb-false _ _ n.1.1.1.1.1.1.0;
       }
 
-  area_clear : SoundArea free a → first_fault (area_checks i free a) ≡ none
+  area_clear : SoundArea free a → first_fault (area_checks i free a) ≡ None
   unfolding area_checks NoneApplies
   area_clear s =
       grants (area_checks i free a) (
@@ -65,14 +62,14 @@ module _ (i free : ℕ) (a : Area) where
       )
 
 -- the table
-table_sound : (i free : ℕ) (areas : List Area) → first_fault (table_checks i free areas) ≡ none → Ascending free areas
+table_sound : (i free : ℕ) (areas : List Area) → first_fault (table_checks i free areas) ≡ None → Ascending free areas
 unfolding table_checks Ascending
 table_sound i free [] e = tt
 table_sound i free (a ∷ more) e =
     let later = table_checks (i + 1) (a.ead + 1) more in
     (area_sound i free a (clear_left (area_checks i free a) later e), table_sound (i + 1) (a.ead + 1) more (clear_right (area_checks i free a) later e))
 
-table_clear : (i free : ℕ) (areas : List Area) → Ascending free areas → first_fault (table_checks i free areas) ≡ none
+table_clear : (i free : ℕ) (areas : List Area) → Ascending free areas → first_fault (table_checks i free areas) ≡ None
 unfolding table_checks Ascending first_fault
 table_clear i free [] s = refl
 table_clear i free (a ∷ more) s =
@@ -143,14 +140,14 @@ one_area free (a ∷ more) s x (suc j) zero hj hk t u =
 one_area free (a ∷ more) s x (suc j) (suc k) hj hk t u = ap suc (one_area (a.ead + 1) more s.1 x j k (omega arith) (omega arith) t u)
 
 -- an area of the table that was found ends below FFFFFFFFh
-pub below_top : (free base : ℕ) (areas : List Area) (x : ℕ) (spot : Spot) → Ascending free areas → place_from base areas x ≡ In spot → spot.area.ead < 0xFFFFFFFF
+pub below_top : (free base : ℕ) (areas : List Area) (x : ℕ) (spot : Spot) → Ascending free areas → place_from base areas x ≡ Some spot → spot.area.ead < 0xFFFFFFFF
 unfolding Ascending place_from
 below_top free base [] x spot s e = let z : ◌≡◌ {A = ℕ} 0 1 = cc in absurd (omega arith)
 below_top free base (a ∷ more) x spot s e = go (inside a x) refl (below_top (a.ead + 1) (base + size_of a) more x spot s.1)
   where
-    go : (t : Bool) → inside a x ≡ t → (place_from (base + size_of a) more x ≡ In spot → spot.area.ead < 0xFFFFFFFF) → spot.area.ead < 0xFFFFFFFF
+    go : (t : Bool) → inside a x ≡ t → (place_from (base + size_of a) more x ≡ Some spot → spot.area.ead < 0xFFFFFFFF) → spot.area.ead < 0xFFFFFFFF
     go true i later =
-        let here : In (record { area = a; base = base }) ≡ In spot = rw i at e in
+        let here : Some (record { area = a; base = base }) ≡ Some spot = rw i at e in
         let it : record { area = a; base = base } ≡ spot = cc in
         subst (λ (k : Spot). k.area.ead < 0xFFFFFFFF) it s.0.below_top
     go false i later = later (rw i at e)

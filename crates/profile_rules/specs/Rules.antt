@@ -1,14 +1,11 @@
 -- A profile is acceptable exactly when it breaks no rule; the rules in the order in which they are tried.
-use Rattle.std.specs.Prelude.{Bool, ◌&&◌, ◌||◌, not, cond, List, [], ◌∷◌, ◌++◌, ◌≡◌, ℕ, ◌+◌, ◌%◌, leb, ltb, eqb}
-use Rattle.std.proofs.Math.Option.{Option, none, some}
-use Rattle.verdict.specs.Check.{Check, ◌gives◌, first_fault}
+use Rattle.std.specs.Prelude.{Bool, ◌&&◌, ◌||◌, not, cond, List, [], ◌∷◌, ◌++◌, ◌≡◌, ℕ, ◌+◌, ◌%◌, leb, ltb, eqb, Option, None, Result}
+use Rattle.verdict.specs.Check.{Check, ◌gives◌, first_fault, verdict_of}
 use Rattle.profile.specs.declared.Area.{Area}
 use Rattle.profile.specs.declared.Profile.{Profile}
 use Rattle.profile.specs.Areas.{areas_of, size_of, tally, total_of}
 use Rattle.profile_rules.specs.declared.Rule.{Rule}
 use Rattle.profile_rules.specs.declared.Rule.TheVariants.{AreaCount, NoClock, NoTopRate, Kind, EndsBeforeStart, EndsAtTop, NotAbove, EraseUnit, WriteUnit, LongWriteUnit, ConfigCount, ConfigSize, TooLarge, WindowReversed}
-use Rattle.profile_rules.specs.declared.Acceptance.{Acceptance}
-use Rattle.profile_rules.specs.declared.Acceptance.TheVariants.{Acceptable, Breaks}
 
 -- a unit of 0 is none; any other divides SAD and the area's size
 unfoldable pub unit_fits : Area → ℕ → Bool
@@ -57,10 +54,13 @@ tail_checks p =
 unfoldable pub profile_checks : Profile → List (Check Rule)
 profile_checks p = head_checks p ++ (table_checks 0 0 (areas_of p) ++ tail_checks p)
 
+-- that a profile is acceptable, or the rule that it breaks
+abbrev pub Acceptance : Type 0
+Acceptance = Result (Unit {0}) Rule
+
 abbrev pub acceptance_of : Option Rule → Acceptance
-acceptance_of none = Acceptable
-acceptance_of (some rule) = Breaks rule
+acceptance_of = verdict_of
 
 -- the name by which later layers know it
 unfoldable pub Accepted : Profile → Type 0
-Accepted p = first_fault (profile_checks p) ≡ none
+Accepted p = first_fault (profile_checks p) ≡ None

@@ -6,9 +6,8 @@ use lib.ListN.{length}
 use Rattle.profile.specs.declared.Profile.{Profile}
 use Rattle.state.specs.declared.State.{State}
 use Rattle.state.specs.State.{fresh_state}
-use Rattle.device_calls.specs.declared.Refusal.{Refusal}
 use Rattle.device_calls.specs.declared.Started.{Started}
-use Rattle.device_calls.specs.Calls.{Lent, start_refusal, started_at, started_by}
+use Rattle.device_calls.specs.Calls.{Lent, start_refusal, started_at, started_by, Refusal}
 use Rattle.device_calls.specs.Ready.{Ready}
 use Rattle.device_calls.proofs.Rows.{start_accepts}
 use Rattle.device_steps.specs.Step.{Machine, machine_of}

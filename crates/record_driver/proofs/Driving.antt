@@ -10,10 +10,8 @@ use Rattle.packet.specs.Frame.{front}
 use Rattle.packet.proofs.Laws.{impossible}
 use Rattle.state.specs.declared.State.{State}
 use Rattle.state.specs.State.{fresh_state, zero_state}
-use Rattle.device_calls.specs.declared.Refusal.{Refusal}
-use Rattle.device_calls.specs.declared.Refusal.TheVariants.{Accepted, By}
 use Rattle.device_calls.specs.declared.Started.{Started}
-use Rattle.device_calls.specs.Calls.{Lent, is_accepted, start_rows, buffer_rows, start_refusal, feed_refusal, started_at, started_by}
+use Rattle.device_calls.specs.Calls.{Lent, is_accepted, start_rows, buffer_rows, start_refusal, feed_refusal, started_at, started_by, Refusal}
 use Rattle.device_calls.specs.Ready.{Ready}
 use Rattle.device_calls.proofs.Rows.{is_accepted_lem, feed_rows_lem, stops, rows_ready}
 use Rattle.device_steps.specs.Step.{machine_of}
@@ -25,6 +23,7 @@ use Rattle.record_history.specs.History.{fresh_of, calls_of}
 use Rattle.record_history.proofs.Replayed.{replayed}
 use Rattle.record_driver.specs.declared.Driven.{Driven}
 use Rattle.record_driver.specs.Post.{DroveOn, Drove, DrivenBy, Drives}
+use Rattle.std.specs.Prelude.{Ok, Err}
 use Rattle.record_driver.proofs.Called.{fresh_machine}
 
 -- a delivery of no bytes tells the refusal, and leaves all as it was
@@ -35,7 +34,7 @@ record Tried (refusal : Refusal) (before after : Lent) (r : Fed) : Type 0 where
 tried : (refusal : Refusal) (p : Profile) (st : State) (before after : Lent) (r : Fed) → FedBy refusal (feed_of p (machine_of st before) []) [] st before after r
     → Tried refusal before after r
 unfolding feed_of front
-tried Accepted p st before after r f =
+tried (Ok tt) p st before after r f =
     record {
       told = ap (λ (x : Fed). x.refusal) f.is;
       lent =
@@ -43,14 +42,14 @@ tried Accepted p st before after r f =
           ∙ ap (λ (x : List ℕ). record { image = before.image; receive = x; reply = after.reply }) (f.idle refl)
           ∙ ap (λ (x : List ℕ). record { image = before.image; receive = before.receive; reply = x }) f.reply;
     }
-tried (By row) p st before after r f = record { told = ap (λ (x : Fed). x.refusal) f.is; lent = f.lent }
+tried (Err row) p st before after r f = record { told = ap (λ (x : Fed). x.refusal) f.is; lent = f.lent }
 
 -- a refused script
 undriven : (refusal : Refusal) (p : Profile) (script : List ℕ) (before after : Lent) (r : Driven) → is_accepted refusal ≡ false
     → r ≡ record { refusal = refusal; state = started_at (start_refusal p (length before.image)) p zero_state; read = unread } → after ≡ before
     → DrivenBy refusal p script before after r
-undriven Accepted p script before after r h e l = impossible (cc)
-undriven (By row) p script before after r h e l = record { is = e; lent = l }
+undriven (Ok tt) p script before after r h e l = impossible (cc)
+undriven (Err row) p script before after r h e l = record { is = e; lent = l }
 
 -- what starting answered, and whether it was accepted
 module _ (p : Profile) (l : Lent) {begun : Started} {t : Bool} (e : begun ≡ started_by (start_refusal p (length l.image)) p zero_state)
@@ -101,7 +100,7 @@ module _ (p : Profile) (l : Lent) {begun : Started} {t : Bool} (e : begun ≡ st
 
     -- accepted
     module _ (z : not u ≡ false) where
-      accepted : row ≡ Accepted
+      accepted : row ≡ Ok tt
       accepted = is_accepted_lem row (sym fed_told ∙ not-false u z)
 
       pub begun_ready : Ready p begun.state l'

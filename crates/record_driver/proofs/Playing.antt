@@ -5,7 +5,6 @@ use Prim.Native.Nat.{ℕ}
 use lib.ListN.{length}
 use Rattle.profile.specs.declared.Profile.{Profile}
 use Rattle.state.specs.declared.State.{State}
-use Rattle.device_calls.specs.declared.Refusal.TheVariants.{Accepted}
 use Rattle.device_calls.specs.Calls.{Lent}
 use Rattle.device_calls.specs.Ready.{Ready}
 use Rattle.device_steps.specs.Step.{Machine, machine_of}
@@ -21,6 +20,7 @@ use Rattle.recording.proofs.Reading.{Over, records_next, records_over, stop_next
 use Rattle.record_history.specs.History.{machine_after, buffer_after, calls_of}
 use Rattle.record_driver.specs.Stands.{Stands, calls_at}
 use Rattle.record_driver.specs.Post.{DroveOn}
+use Rattle.std.specs.Prelude.{Ok}
 use Rattle.record_driver.proofs.Called.{stands_at}
 
 -- a record, and those behind it
@@ -59,7 +59,7 @@ module _ {p : Profile} {l₀ : Lent} {s : List ℕ} {st₀ : State} {l : Lent} {
 
   -- no record stands here
   pub played_all : {found : Found} {ended : Ended} → found ≡ found_at s at → Over found → ended ≡ ended_by found
-      → DroveOn p (machine_of st₀ l₀) s l₀ l (record { refusal = Accepted; state = st; read = record { count = at; ended = ended } })
+      → DroveOn p (machine_of st₀ l₀) s l₀ l (record { refusal = Ok tt; state = st; read = record { count = at; ended = ended } })
   unfolding machine_after buffer_after calls_of
   played_all e n i =
       let over : Over (found_at s at) = rw e at n in

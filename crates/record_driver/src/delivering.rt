@@ -24,16 +24,14 @@ fn deliver(
         (replies_over profile (machine_of state (buffers image.old receive.old reply.old)) input.now reply.old)
         result (buffers image.new receive.new reply.new) }
 {
-    let n = input.len();
-    let mut st = state;
-    let mut at = 0;
-    while at < n {
-        let fed = device::feed(profile, image, st, receive, reply, &input[at..]);
-        let used = fed.consumed;
-        st = fed.state;
-        at += used;
+    let mut reached = state;
+    let mut rest = input;
+    while !rest.is_empty() {
+        let fed = device::feed(profile, image, reached, receive, reply, rest);
+        reached = fed.state;
+        rest = &rest[fed.consumed..];
     }
-    st
+    reached
 }
 
 // A record of a script.
@@ -53,15 +51,15 @@ pub fn call(
         result (buffers image.new receive.new reply.new) }
 {
     match direction {
-        Direction::Host => {
-            let from = part.from;
-            let to = part.to;
-            deliver(profile, image, state, receive, reply, &script[from..to])
-        }
+        Direction::Host => deliver(
+            profile,
+            image,
+            state,
+            receive,
+            reply,
+            &script[part.from..part.to],
+        ),
         Direction::Device => state,
-        Direction::Reset => {
-            let begun = device::reset(profile, image, state);
-            begun.state
-        }
+        Direction::Reset => device::reset(profile, image, state).state,
     }
 }

@@ -53,11 +53,12 @@ fn run(
 {
     let mut st = state;
     let mut at = 0;
+    // Stays a loop: a reader that keeps its place in a recording belongs to a later request.
     loop {
         let found = recording::record_at(script, at);
         let Found::Is(direction, part) = found else {
             return Driven {
-                refusal: Refusal::Accepted,
+                refusal: Ok(()),
                 state: st,
                 read: Extent {
                     count: at,
@@ -82,16 +83,13 @@ pub fn drive(
         (buffers image.new receive.new reply.new) result }
 {
     let begun = device::start(profile, image);
-    let st = begun.state;
-    let refusal = begun.refusal;
-    if !device::is_accepted(refusal) {
-        return refused(refusal, st);
+    if !device::is_accepted(begun.refusal) {
+        return refused(begun.refusal, begun.state);
     }
     // a delivery of no bytes tells whether the buffers will do
-    let first = device::feed(profile, image, st, receive, reply, &script[0..0]);
-    let row = first.refusal;
-    if !device::is_accepted(row) {
-        return refused(row, st);
+    let first = device::feed(profile, image, begun.state, receive, reply, &script[..0]);
+    if !device::is_accepted(first.refusal) {
+        return refused(first.refusal, begun.state);
     }
-    run(profile, image, st, receive, reply, script)
+    run(profile, image, begun.state, receive, reply, script)
 }

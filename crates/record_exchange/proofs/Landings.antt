@@ -10,13 +10,12 @@ use Rattle.packet.specs.Packet.{good}
 use Rattle.packet_fields.specs.declared.Com.{Com}
 use Rattle.packet_fields.specs.declared.Com.TheVariants.{Inquiry, Erase, Write, Read, Authenticate, Baud, Signature, Area, Unknown}
 use Rattle.packet_fields.specs.Fields.{com_of, code_at, info_count, info_of, info_length, sad_of}
-use Rattle.record_exchange.specs.declared.Landing.{Landing}
-use Rattle.record_exchange.specs.declared.Landing.TheVariants.{At}
 use Rattle.record_exchange.specs.declared.Told.{Told}
+use Rattle.std.specs.Prelude.{Option, Some}
 use Rattle.record_exchange.specs.Exchange.{answered_ok, command_told, command_read, data_told, data_read, exchange_read}
 
 -- at the old place, at the SAD of a write, or behind the data that was stored: what holds of these three holds of it
-module _ (P : Landing → Type 0) (q : List ℕ) (landing : Landing) (stays : P landing) (first : P (At (sad_of q))) (behind : P (data_told q landing).landing) where
+module _ (P : Option ℕ → Type 0) (q : List ℕ) (landing : Option ℕ) (stays : P landing) (first : P (Some (sad_of q))) (behind : P (data_told q landing).landing) where
   either : (s : Bool) (a b : Told) → P a.landing → P b.landing → P (cond s a b).landing
   either true a b h k = h
   either false a b h k = k

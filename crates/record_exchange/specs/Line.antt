@@ -1,6 +1,5 @@
 -- The line's record: what was received up to a byte that was answered with a packet, and the reply; and each reset.
-use Rattle.std.specs.Prelude.{Bool, true, false, List, [], ◌∷◌, ◌≡◌, ℕ}
-use Rattle.std.proofs.Math.Option.{Option, none, some}
+use Rattle.std.specs.Prelude.{Bool, true, false, List, [], ◌∷◌, ◌≡◌, ℕ, Option, None, Some}
 use Rattle.recording.specs.Format.{Record, host, device, reset}
 
 -- a complete packet with its reply, or the three bytes of an early refusal with theirs; a reset
@@ -11,13 +10,13 @@ pub data Entry : Type 0 where
 -- the exchanges of a recording: what the device sent answers the host's record right before it, which waits for it
 unfoldable pub exchanges_from : Option (List ℕ) → List Record → List Entry
 exchanges_from waiting [] = []
-exchanges_from waiting (host q ∷ more) = exchanges_from (some q) more
-exchanges_from none (device reply ∷ more) = exchanges_from none more
-exchanges_from (some q) (device reply ∷ more) = exchange q reply ∷ exchanges_from none more
-exchanges_from waiting (reset ∷ more) = restart ∷ exchanges_from none more
+exchanges_from waiting (host q ∷ more) = exchanges_from (Some q) more
+exchanges_from None (device reply ∷ more) = exchanges_from None more
+exchanges_from (Some q) (device reply ∷ more) = exchange q reply ∷ exchanges_from None more
+exchanges_from waiting (reset ∷ more) = restart ∷ exchanges_from None more
 
 abbrev pub exchanges_of : List Record → List Entry
-exchanges_of records = exchanges_from none records
+exchanges_of records = exchanges_from None records
 
 -- a line's record as a recording has it: each request as one host record, with its reply as the device record right behind it
 unfoldable pub taped : List Entry → List Record

@@ -15,10 +15,10 @@ use Rattle.record_replay.specs.Replay.{replay}
 use Rattle.device_steps.specs.Step.{Machine, step_of}
 use Rattle.device_steps.specs.Fits.{FitMachine}
 use Rattle.device_steps.proofs.Kept.{fresh_fits, still_fits, kept_length, state_fits, held_short}
-use Rattle.device_calls.specs.declared.Refusal.TheVariants.{Accepted as AcceptedCall}
 use Rattle.device_calls.specs.Calls.{buffers, start_refusal, feed_refusal}
 use Rattle.device_calls.proofs.Rows.{start_accepts, ready_rows}
 use Rattle.record_history.specs.History.{Call, deliver, again, fresh_of, hearing, machine_after, record_of}
+use Rattle.std.specs.Prelude.{Ok}
 use Rattle.record_history.proofs.Replayed.{replayed}
 
 -- the machine fits all along, and its image keeps its length
@@ -47,7 +47,7 @@ history_length p m (again ∷ more) = history_length p (fresh_of p m.image) more
 -- a machine that fits has its next feed accepted, with buffers of 1,030 bytes that hold what is held
 next_feeds : (p : Profile) → Accepted p → (m : Machine) → length m.image ≡ total_of (areas_of p) → FitMachine p m
     → (receive reply : List ℕ) → take m.state.held receive ≡ m.held → Roomy receive → Roomy reply
-    → feed_refusal p m.state (buffers m.image receive reply) ≡ AcceptedCall
+    → feed_refusal p m.state (buffers m.image receive reply) ≡ Ok tt
 next_feeds p accepted m e f receive reply held wide long =
     let few : length m.held < 1030 = held_short p m f in
     let count : m.state.held ≡ length m.held = f.count in
@@ -59,11 +59,11 @@ module _ (p : Profile) (accepted : Accepted p) (image : List ℕ) (e : length im
   abbrev there : Machine
   there = machine_after p (fresh_of p image) calls
 
-  pub then_resets : start_refusal p (length there.image) ≡ AcceptedCall
+  pub then_resets : start_refusal p (length there.image) ≡ Ok tt
   then_resets = start_accepts p (length there.image) accepted (history_length p (fresh_of p image) calls ∙ e)
 
   pub then_feeds : (receive reply : List ℕ) → take there.state.held receive ≡ there.held → Roomy receive → Roomy reply
-      → feed_refusal p there.state (buffers there.image receive reply) ≡ AcceptedCall
+      → feed_refusal p there.state (buffers there.image receive reply) ≡ Ok tt
   then_feeds =
       next_feeds p accepted there (history_length p (fresh_of p image) calls ∙ e) (history_fits p accepted (fresh_of p image) calls (fresh_fits p image))
 

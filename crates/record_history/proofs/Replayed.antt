@@ -28,8 +28,6 @@ use Rattle.answer_waking.specs.Wake.{awake, wake_of}
 use Rattle.device_steps.specs.Step.{Machine, early_of, answer_of, heard, step_in, step_of}
 use Rattle.device_steps.specs.Records.{is_unfit, progress_in, heard_with, completes, refuses}
 use Rattle.device_steps.proofs.Settles.{either}
-use Rattle.record_exchange.specs.declared.Landing.{Landing}
-use Rattle.record_exchange.specs.declared.Landing.TheVariants.{Nowhere}
 use Rattle.record_exchange.specs.declared.Told.{Told}
 use Rattle.record_exchange.specs.Exchange.{exchange_read}
 use Rattle.record_exchange.specs.Line.{Entry, exchange}
@@ -37,20 +35,21 @@ use Rattle.record_replay.specs.Replay.{Tape, done, entry_replay, replay_from, re
 use Rattle.record_replay.proofs.Laws.{replay_append}
 use Rattle.record_history.specs.History.{Call, deliver, again, fresh_of, hearing, machine_after, entries_at, heard_record, record_of}
 use Rattle.record_history.proofs.Recorded.{entries_are}
+use Rattle.std.specs.Prelude.{Option, None}
 use Rattle.record_history.proofs.SameAct.{Follows, Agrees, passed_over, same_act}
 
 -- the entries take the tape from one image to that of the next machine
-pub record Leads (p : Profile) (image : List ℕ) (l : Landing) (es : List Entry) (m : Machine) : Type 0 where
-  pub landing : Landing
+pub record Leads (p : Profile) (image : List ℕ) (l : Option ℕ) (es : List Entry) (m : Machine) : Type 0 where
+  pub landing : Option ℕ
   pub replays : replay_from (areas_of p) (record { image = image; landing = l }) es ≡ record { image = m.image; landing = landing }
   pub at : Follows m.state.stage landing
 
 -- no entry, and the image stays
-still : (p : Profile) (image : List ℕ) (l : Landing) (m : Machine) → image ≡ m.image → Follows m.state.stage l → Leads p image l [] m
+still : (p : Profile) (image : List ℕ) (l : Option ℕ) (m : Machine) → image ≡ m.image → Follows m.state.stage l → Leads p image l [] m
 unfolding replay_from
 still p image l m e h = record { landing = l; replays = ap (λ (i : List ℕ). record { image = i; landing = l }) e; at = h }
 
-wake_law : (p : Profile) (image : List ℕ) (st : State) (l : Landing) (u : Pulse) (b : ℕ)
+wake_law : (p : Profile) (image : List ℕ) (st : State) (l : Option ℕ) (u : Pulse) (b : ℕ)
     → ((wake_of p image st u b).act ≡ Nothing) × Follows (wake_of p image st u b).state.stage l
 unfolding wake_of awake
 wake_law p image st l Zero b = either (λ (a : Answer). (a.act ≡ Nothing) × Follows a.state.stage l) _ _ (eqb b 0x00) (refl, tt) (refl, tt)
@@ -60,7 +59,7 @@ wake_law p image st l Acknowledged b =
     (refl, either (λ (s : Stage). Follows s l) Command Authentication (is_none (id_of (areas_of p) image)) tt tt)
     (either (λ (a : Answer). (a.act ≡ Nothing) × Follows a.state.stage l) _ _ (eqb b 0x00) (refl, tt) (refl, tt))
 
-end_at : (s : Stage) (l : Landing) → Follows (early_of s).1 l
+end_at : (s : Stage) (l : Option ℕ) → Follows (early_of s).1 l
 end_at (Setting u) l = tt
 end_at Authentication l = tt
 end_at Command l = tt
@@ -72,7 +71,7 @@ abbrev entries_for : Progress → List ℕ → List ℕ → List Entry
 entries_for x q reply = cond (is_complete x || is_unfit x) (exchange q reply ∷ []) []
 
 -- one byte
-module _ (p : Profile) (m : Machine) (l : Landing) (h : Follows m.state.stage l) where
+module _ (p : Profile) (m : Machine) (l : Option ℕ) (h : Follows m.state.stage l) where
   heard_law : (q : List ℕ) (x : Progress) → (x ≡ Complete → Agrees l q (answer_of p m.image m.state m.state.stage q))
       → Leads p m.image l (entries_for x q (heard p m q x).reply) (heard p m q x).machine
   unfolding heard replay_from entry_replay performed
@@ -108,7 +107,7 @@ module _ (p : Profile) (m : Machine) (l : Landing) (h : Follows m.state.stage l)
       (step_in_law b (awaits_of m.state.stage) (λ c. same_act p m.image m.state l (heard_with m b) c h))
 
 -- one record behind the other
-then : (p : Profile) (image : List ℕ) (l : Landing) (es fs : List Entry) (m m' : Machine) (k : Leads p image l es m)
+then : (p : Profile) (image : List ℕ) (l : Option ℕ) (es fs : List Entry) (m m' : Machine) (k : Leads p image l es m)
     → Leads p m.image k.landing fs m' → Leads p image l (es ++ fs) m'
 then p image l es fs m m' k n =
     record {
@@ -121,7 +120,7 @@ then p image l es fs m m' k n =
     }
 
 -- a delivery
-pub hearing_law : (p : Profile) (m : Machine) (l : Landing) (bs : List ℕ) → Follows m.state.stage l → Leads p m.image l (heard_record p m bs) (hearing p m bs)
+pub hearing_law : (p : Profile) (m : Machine) (l : Option ℕ) (bs : List ℕ) → Follows m.state.stage l → Leads p m.image l (heard_record p m bs) (hearing p m bs)
 unfolding hearing heard_record
 hearing_law p m l [] h = still p m.image l m refl h
 hearing_law p m l (b ∷ bs) h =
@@ -129,12 +128,12 @@ hearing_law p m l (b ∷ bs) h =
     let s : Machine = (step_of p m b).machine in
     then p m.image l (entries_at p m b) (heard_record p s bs) s (hearing p s bs) k (hearing_law p s k.landing bs k.at)
 
-fresh_at : (p : Profile) (l : Landing) → Follows (fresh_state p).stage l
+fresh_at : (p : Profile) (l : Option ℕ) → Follows (fresh_state p).stage l
 unfolding fresh_state
 fresh_at p l = tt
 
 -- a history
-pub history_law : (p : Profile) (m : Machine) (l : Landing) (calls : List Call) → Follows m.state.stage l
+pub history_law : (p : Profile) (m : Machine) (l : Option ℕ) (calls : List Call) → Follows m.state.stage l
     → Leads p m.image l (record_of p m calls) (machine_after p m calls)
 unfolding record_of machine_after replay_from entry_replay
 history_law p m l [] h = still p m.image l m refl h
@@ -150,4 +149,4 @@ history_law p m l (again ∷ more) h =
 pub replayed : (p : Profile) (image : List ℕ) (calls : List Call)
     → (machine_after p (fresh_of p image) calls).image ≡ replay (areas_of p) image (record_of p (fresh_of p image) calls)
 unfolding replay
-replayed p image calls = sym (ap (λ (t : Tape). t.image) (history_law p (fresh_of p image) Nowhere calls (fresh_at p Nowhere)).replays)
+replayed p image calls = sym (ap (λ (t : Tape). t.image) (history_law p (fresh_of p image) None calls (fresh_at p None)).replays)

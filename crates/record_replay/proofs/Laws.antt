@@ -12,12 +12,12 @@ use Rattle.flash.specs.declared.Act.TheVariants.{Nothing, EraseRange, EraseAll, 
 use Rattle.flash.specs.Effects.{Effect, along, changed, storing, erasing, stored, erased}
 use Rattle.flash.specs.Acts.{performed}
 use Rattle.flash.proofs.Performed.{performed_length}
-use Rattle.record_exchange.specs.declared.Landing.TheVariants.{Nowhere}
 use Rattle.record_exchange.specs.declared.Told.{Told}
 use Rattle.record_exchange.specs.Exchange.{answered_ok, idle, exchange_read}
 use Rattle.record_exchange.specs.Line.{Entry, exchange, restart}
 use Rattle.record_exchange.proofs.Answered.{unanswered, asks_next_lem}
 use Rattle.record_replay.specs.Blind.{bared}
+use Rattle.std.specs.Prelude.{None}
 use Rattle.record_replay.specs.Replay.{Tape, done, entry_replay, replay_from, replay}
 
 -- a record that goes on is replayed on what it left so far
@@ -28,7 +28,7 @@ replay_append areas t (e ∷ es) fs = replay_append areas (entry_replay areas e 
 
 -- the tape at the start of a record
 abbrev unwritten : List ℕ → Tape
-unwritten image = record { image = image; landing = Nowhere }
+unwritten image = record { image = image; landing = None }
 
 -- an entry that changes no tape has no effect anywhere in a record
 unseen : (areas : List Area) (image : List ℕ) (e : Entry) → ((t : Tape) → entry_replay areas e t ≡ t) → (es fs : List Entry)

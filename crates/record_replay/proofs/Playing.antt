@@ -8,8 +8,7 @@ use lib.ListN.{length, drop, get_or, length-take, length-drop}
 use lib.Seq.{length-take-le}
 use lib.Dec.{leb}
 use borrow.Author.Tests.{leb-true}
-use Rattle.numbers.specs.declared.Number.TheVariants.{Is as Number, CutShort as NumberCut}
-use Rattle.numbers.specs.Bytes.{number, field, number_at, AllBytes}
+use Rattle.numbers.specs.Bytes.{number, field, value_at, AllBytes}
 use Rattle.numbers.proofs.RoundTrip.{number_below, are_bytes, all_drop, all_take}
 use Rattle.profile.specs.declared.Profile.{Profile}
 use Rattle.profile.specs.Areas.{areas_of}
@@ -24,24 +23,21 @@ use Rattle.recording.specs.declared.Extent.{Extent}
 use Rattle.recording.specs.Format.{Record}
 use Rattle.recording.specs.Recording.{found_at, bytes_in, records_of, stop_from, readable, ended_by, extent_of}
 use Rattle.recording.proofs.Reading.{found_lies, records_next, stop_next, Over, records_over, stop_over, extent_is}
-use Rattle.record_exchange.specs.declared.Landing.{Landing}
-use Rattle.record_exchange.specs.declared.Landing.TheVariants.{Nowhere, At}
 use Rattle.record_exchange.specs.Exchange.{data_told, exchange_read, CanMove}
 use Rattle.record_exchange.specs.Line.{Entry, exchange, exchanges_from, exchanges_of}
 use Rattle.record_exchange.proofs.Landings.{lands}
 use Rattle.record_exchange.proofs.Tapes.{tape_back, stray_unseen}
 use Rattle.record_replay.specs.declared.Head.{Head}
-use Rattle.record_replay.specs.declared.Waiting.{Waiting}
-use Rattle.record_replay.specs.declared.Waiting.TheVariants.{Nothing, For}
 use Rattle.record_replay.specs.Replay.{Tape, entry_replay, replay_from, replay}
+use Rattle.std.specs.Prelude.{Option, Some, None}
 use Rattle.record_replay.specs.Post.{LandsBelow, played_from, WaitsBefore, HeadIn, Advanced, Played}
 
 -- four bytes make a u32
 four_low : (q : List ℕ) → AllBytes q → four_at q 4 ≤ 4294967295
-unfolding four_at number_at
+unfolding four_at value_at
 four_low q h = by (leb 8 (length q)) refl
   where
-    by : (t : Bool) → leb 8 (length q) ≡ t → value_of (cond t (Number (number (field 4 4 q))) NumberCut) ≤ 4294967295
+    by : (t : Bool) → leb 8 (length q) ≡ t → value_of (cond t (Some (number (field 4 4 q))) None) ≤ 4294967295
     by true e =
         let w : 8 ≤ length q = leb-true 8 (length q) e in
         let d : 4 ≤ length (drop 4 q) = rw length-drop (omega arith) in
@@ -52,50 +48,50 @@ four_low q h = by (leb 8 (length q)) refl
     by false e = omega arith
 
 -- a higher bound
-low_more : (n m : ℕ) (landing : Landing) → n ≤ m → LandsBelow landing n → LandsBelow landing m
-low_more n m Nowhere k h = tt
-low_more n m (At x) k h = omega arith
+low_more : (n m : ℕ) (landing : Option ℕ) → n ≤ m → LandsBelow landing n → LandsBelow landing m
+low_more n m None k h = tt
+low_more n m (Some x) k h = omega arith
 
 -- a request moves the landing place by its own length at most, or to a u32
-data_low : (q : List ℕ) (n m : ℕ) (landing : Landing) → n + length q ≤ m → LandsBelow landing n → LandsBelow (data_told q landing).landing m
+data_low : (q : List ℕ) (n m : ℕ) (landing : Option ℕ) → n + length q ≤ m → LandsBelow landing n → LandsBelow (data_told q landing).landing m
 unfolding data_told
-data_low q n m Nowhere k h = tt
-data_low q n m (At x) k h = omega arith
+data_low q n m None k h = tt
+data_low q n m (Some x) k h = omega arith
 
-exchange_low : (q reply : List ℕ) (n m : ℕ) (landing : Landing) → AllBytes q → 4294967295 ≤ m → n + length q ≤ m → LandsBelow landing n
+exchange_low : (q reply : List ℕ) (n m : ℕ) (landing : Option ℕ) → AllBytes q → 4294967295 ≤ m → n + length q ≤ m → LandsBelow landing n
     → LandsBelow (exchange_read q reply landing).landing m
 exchange_low q reply n m landing bytes u k h =
     let f : four_at q 4 ≤ 4294967295 = four_low q bytes in
-    lands (λ (l : Landing). LandsBelow l m) q landing (low_more n m landing (omega arith) h) (omega arith) (data_low q n m landing k h) reply
+    lands (λ (l : Option ℕ). LandsBelow l m) q landing (low_more n m landing (omega arith) h) (omega arith) (data_low q n m landing k h) reply
 
 -- what a head says of its landing place
-waits_low : (w : Waiting) (landing : Landing) (at n : ℕ) → WaitsBefore w landing at → 4294967295 + at ≤ n → LandsBelow landing n
-waits_low Nothing landing at n h k = low_more (4294967295 + at) n landing k h
-waits_low (For part) landing at n h k =
+waits_low : (w : Option Part) (landing : Option ℕ) (at n : ℕ) → WaitsBefore w landing at → 4294967295 + at ≤ n → LandsBelow landing n
+waits_low None landing at n h k = low_more (4294967295 + at) n landing k h
+waits_low (Some part) landing at n h k =
     let a : part.from ≤ part.to = h.0 in
     let b : part.to ≤ at = h.1 in
     low_more (4294967295 + part.from) n landing (omega arith) h.2
 
 -- the part that waits
-pub waited : {n : ℕ} {head : Head} {request : Part} → HeadIn n head → head.waiting ≡ For request → WaitsBefore (For request) head.landing head.at
-waited {n} {head} h e = subst (λ (w : Waiting). WaitsBefore w head.landing head.at) e h.waits
+pub waited : {n : ℕ} {head : Head} {request : Part} → HeadIn n head → head.waiting ≡ Some request → WaitsBefore (Some request) head.landing head.at
+waited {n} {head} h e = subst (λ (w : Option Part). WaitsBefore w head.landing head.at) e h.waits
 
 part_length : (part : Part) (s : List ℕ) → length (bytes_in part s) ≤ part.to - part.from
 part_length part s = rw length-take (omega arith)
 
 -- a landing place of at most n can be moved by k where both are small enough
-pub can_move : (landing : Landing) (n k : ℕ) → LandsBelow landing n → n + k ≤ 18446744073709551615 → CanMove landing k
-can_move Nowhere n k h b = tt
-can_move (At x) n k h b = omega arith
+pub can_move : (landing : Option ℕ) (n k : ℕ) → LandsBelow landing n → n + k ≤ 18446744073709551615 → CanMove landing k
+can_move None n k h b = tt
+can_move (Some x) n k h b = omega arith
 
 -- the head behind a record
-abbrev behind : Part → Landing → Waiting → Head
+abbrev behind : Part → Option ℕ → Option Part → Head
 behind part landing waiting = record { at = part.to; landing = landing; waiting = waiting }
 
 module _ (p : Profile) (s im : List ℕ) (head : Head) (stands : HeadIn (length s) head) (part : Part) where
   module _ (direction : Direction) (e : found_at s head.at ≡ Is direction part) where
     -- one record further
-    advanced : (after : List ℕ) (landing : Landing) (waiting : Waiting)
+    advanced : (after : List ℕ) (landing : Option ℕ) (waiting : Option Part)
         → played_from p s after (behind part landing waiting) ≡ played_from p s im head → WaitsBefore waiting landing part.to
         → Advanced p s im after head (behind part landing waiting)
     advanced after landing waiting plays waits =
@@ -108,46 +104,46 @@ module _ (p : Profile) (s im : List ℕ) (head : Head) (stands : HeadIn (length 
         }
 
     -- where nothing waits behind it, and the landing place stays
-    passed : played_from p s im (behind part head.landing Nothing) ≡ played_from p s im head → Advanced p s im im head (behind part head.landing Nothing)
+    passed : played_from p s im (behind part head.landing None) ≡ played_from p s im head → Advanced p s im im head (behind part head.landing None)
     passed plays =
         let l = found_lies s head.at direction part e in
-        advanced im head.landing Nothing plays
+        advanced im head.landing None plays
         (waits_low head.waiting head.landing head.at (4294967295 + part.to) stands.waits (omega arith))
 
   -- what the host sent waits
-  pub host_next : found_at s head.at ≡ Is Host part → Advanced p s im im head (behind part head.landing (For part))
+  pub host_next : found_at s head.at ≡ Is Host part → Advanced p s im im head (behind part head.landing (Some part))
   unfolding exchanges_from
   host_next e =
       let l = found_lies s head.at Host part e in
-      advanced Host e im head.landing (For part) (rw (records_next s head.at Host part e))
+      advanced Host e im head.landing (Some part) (rw (records_next s head.at Host part e))
       (l.order, omega arith, waits_low head.waiting head.landing head.at (4294967295 + part.from) stands.waits (omega arith))
 
-  pub reset_next : found_at s head.at ≡ Is Reset part → Advanced p s im im head (behind part head.landing Nothing)
+  pub reset_next : found_at s head.at ≡ Is Reset part → Advanced p s im im head (behind part head.landing None)
   unfolding exchanges_from replay_from entry_replay
   reset_next e = passed Reset e (rw (records_next s head.at Reset part e))
 
   -- what the device sent unasked
-  pub device_alone : found_at s head.at ≡ Is Device part → head.waiting ≡ Nothing → Advanced p s im im head (behind part head.landing Nothing)
+  pub device_alone : found_at s head.at ≡ Is Device part → head.waiting ≡ None → Advanced p s im im head (behind part head.landing None)
   unfolding exchanges_from
   device_alone e w = passed Device e (rw (records_next s head.at Device part e, w))
 
   -- what the device answered
-  pub device_answers : (request : Part) (next : Landing) (after : List ℕ) → found_at s head.at ≡ Is Device part → head.waiting ≡ For request
+  pub device_answers : (request : Part) (next : Option ℕ) (after : List ℕ) → found_at s head.at ≡ Is Device part → head.waiting ≡ Some request
       → ((i : ℕ) → get_or s i 0 < 256)
       → record { image = after; landing = next }
       ≡ entry_replay (areas_of p) (exchange (bytes_in request s) (bytes_in part s)) (record { image = im; landing = head.landing })
-      → Advanced p s im after head (behind part next Nothing)
+      → Advanced p s im after head (behind part next None)
   unfolding exchanges_from replay_from entry_replay
   device_answers request next after e w bytes t =
       let l = found_lies s head.at Device part e in
       let q = bytes_in request s in
-      let h : WaitsBefore (For request) head.landing head.at = waited stands w in
+      let h : WaitsBefore (Some request) head.landing head.at = waited stands w in
       let o : request.from ≤ request.to = h.0 in
       let b : request.to ≤ head.at = h.1 in
       let n : length q ≤ request.to - request.from = part_length request s in
       let all : AllBytes q = all_take (request.to - request.from) (drop request.from s) (all_drop request.from s (are_bytes s bytes)) in
       let low = exchange_low q (bytes_in part s) (4294967295 + request.from) (4294967295 + part.to) head.landing all (omega arith) (omega arith) h.2 in
-      advanced Device e after next Nothing (rw (records_next s head.at Device part e, w, t)) (rw (ap (λ (u : Tape). u.landing) t) low)
+      advanced Device e after next None (rw (records_next s head.at Device part e, w, t)) (rw (ap (λ (u : Tape). u.landing) t) low)
 
 -- what playing promises of a line's own record and of strays follows from the image
 pub played : (p : Profile) (s im₀ im : List ℕ) (r : Extent) → im ≡ replay (areas_of p) im₀ (exchanges_of (records_of s)) → r ≡ extent_of s → Played p s im₀ im r
@@ -162,12 +158,12 @@ played p s im₀ im r e n =
 
 -- a recording that was played from the start up to a head
 pub record Plays (p : Profile) (s im₀ im : List ℕ) (head : Head) : Type 0 where
-  pub same : played_from p s im head ≡ played_from p s im₀ (record { at = 0; landing = Nowhere; waiting = Nothing })
+  pub same : played_from p s im head ≡ played_from p s im₀ (record { at = 0; landing = None; waiting = None })
   pub stops : stop_from s head.at ≡ readable s
   pub stands : HeadIn (length s) head
   pub kept : length im ≡ length im₀
 
-pub plays_start : (p : Profile) (s im : List ℕ) → Plays p s im im (record { at = 0; landing = Nowhere; waiting = Nothing })
+pub plays_start : (p : Profile) (s im : List ℕ) → Plays p s im im (record { at = 0; landing = None; waiting = None })
 plays_start p s im = record { same = refl; stops = refl; stands = record { inside = omega arith; waits = tt }; kept = refl }
 
 pub plays_next : {p : Profile} {s im₀ im after : List ℕ} {head next : Head} → Plays p s im₀ im head → Advanced p s im after head next → length after ≡ length im

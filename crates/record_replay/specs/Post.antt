@@ -1,6 +1,5 @@
 -- What playing a recording leaves.
-use Rattle.std.specs.Prelude.{List, ◌∷◌, ◌++◌, ◌≡◌, ℕ, ◌+◌, ◌≤◌, ◌<◌, length}
-use Rattle.std.proofs.Math.Option.{Option, none, some}
+use Rattle.std.specs.Prelude.{List, ◌∷◌, ◌++◌, ◌≡◌, ℕ, ◌+◌, ◌≤◌, ◌<◌, length, Option, None, Some}
 use Rattle.profile.specs.declared.Profile.{Profile}
 use Rattle.profile.specs.Areas.{areas_of}
 use Rattle.recording.specs.declared.Extent.{Extent}
@@ -8,11 +7,8 @@ use Rattle.recording.specs.Format.{Record, written, AllFormed}
 use Rattle.recording.specs.Recording.{bytes_in, records_from, records_of, stop_from, extent_of}
 use Rattle.record_exchange.specs.Line.{Entry, exchanges_from, exchanges_of, taped, Stray}
 use Rattle.record_replay.specs.Replay.{Tape, replay_from, replay}
+use Rattle.recording.specs.declared.Part.{Part}
 use Rattle.record_replay.specs.declared.Head.{Head}
-use Rattle.record_replay.specs.declared.Waiting.{Waiting}
-use Rattle.record_replay.specs.declared.Waiting.TheVariants.{Nothing, For}
-use Rattle.record_exchange.specs.declared.Landing.{Landing}
-use Rattle.record_exchange.specs.declared.Landing.TheVariants.{Nowhere, At}
 
 pub record Played (p : Profile) (recording before after : List ℕ) (r : Extent) : Type 0 where
   pub image : after ≡ replay (areas_of p) before (exchanges_of (records_of recording))
@@ -24,14 +20,14 @@ pub record Played (p : Profile) (recording before after : List ℕ) (r : Extent)
       → after ≡ replay (areas_of p) before (exchanges_of (a ++ b))
 
 -- a landing place of at most n
-abbrev pub LandsBelow : Landing → ℕ → Type 0
-LandsBelow Nowhere n = Unit {0}
-LandsBelow (At x) n = x ≤ n
+abbrev pub LandsBelow : Option ℕ → ℕ → Type 0
+LandsBelow None n = Unit {0}
+LandsBelow (Some x) n = x ≤ n
 
 -- what waits for an answer, as the definition has it
-abbrev pub waiting_of : List ℕ → Waiting → Option (List ℕ)
-waiting_of recording Nothing = none
-waiting_of recording (For part) = some (bytes_in part recording)
+abbrev pub waiting_of : List ℕ → Option Part → Option (List ℕ)
+waiting_of recording None = None
+waiting_of recording (Some part) = Some (bytes_in part recording)
 
 -- what playing on from a head gives
 abbrev pub played_from : Profile → List ℕ → List ℕ → Head → Tape
@@ -39,9 +35,9 @@ played_from p recording image head =
     replay_from (areas_of p) (record { image = image; landing = head.landing }) (exchanges_from (waiting_of recording head.waiting) (records_from recording head.at))
 
 -- a part that waits lies before the head; a landing place is at most the highest address and what was read since
-abbrev pub WaitsBefore : Waiting → Landing → ℕ → Type 0
-WaitsBefore Nothing landing at = LandsBelow landing (4294967295 + at)
-WaitsBefore (For part) landing at = (part.from ≤ part.to) × (part.to ≤ at) × LandsBelow landing (4294967295 + part.from)
+abbrev pub WaitsBefore : Option Part → Option ℕ → ℕ → Type 0
+WaitsBefore None landing at = LandsBelow landing (4294967295 + at)
+WaitsBefore (Some part) landing at = (part.from ≤ part.to) × (part.to ≤ at) × LandsBelow landing (4294967295 + part.from)
 
 pub record HeadIn (n : ℕ) (head : Head) : Type 0 where
   pub inside : head.at ≤ n

@@ -1,10 +1,8 @@
 -- The replay of a line's record on an image: the act that each exchange tells of is performed.
-use Rattle.std.specs.Prelude.{List, [], ◌∷◌, ℕ}
+use Rattle.std.specs.Prelude.{List, [], ◌∷◌, ℕ, Option, None}
 use Rattle.profile.specs.declared.Area.{Area}
 use Rattle.packet_fields.specs.Fields.{info_of}
 use Rattle.flash.specs.Acts.{performed}
-use Rattle.record_exchange.specs.declared.Landing.{Landing}
-use Rattle.record_exchange.specs.declared.Landing.TheVariants.{Nowhere}
 use Rattle.record_exchange.specs.declared.Told.{Told}
 use Rattle.record_exchange.specs.Exchange.{exchange_read}
 use Rattle.record_exchange.specs.Line.{Entry, exchange, restart}
@@ -12,7 +10,7 @@ use Rattle.record_exchange.specs.Line.{Entry, exchange, restart}
 -- the image so far, and where the next write data lands: nowhere before the first write command
 pub record Tape : Type 0 where
   pub image : List ℕ
-  pub landing : Landing
+  pub landing : Option ℕ
 
 -- what was told of the request q, done
 abbrev pub done : List Area → List ℕ → Told → List ℕ → Tape
@@ -28,4 +26,4 @@ replay_from areas t (e ∷ es) = replay_from areas (entry_replay areas e t) es
 
 -- the image after a record
 unfoldable pub replay : List Area → List ℕ → List Entry → List ℕ
-replay areas image es = (replay_from areas (record { image = image; landing = Nowhere }) es).image
+replay areas image es = (replay_from areas (record { image = image; landing = None }) es).image

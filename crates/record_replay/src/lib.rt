@@ -12,38 +12,30 @@ ghost use Rattle.record_replay.specs.Replay.{entry_replay};
 ghost use Rattle.record_replay.specs.Post.{HeadIn, Advanced, Played};
 
 use profile::Profile;
-use record_exchange::{Landing, read_exchange};
+use record_exchange::read_exchange;
 use recording::{Direction, Extent, Found, Part};
-
-// What the host sent last, while it has no answer.
-#[derive(Clone, Copy)]
-enum Waiting {
-    Nothing,
-    For(Part),
-}
 
 // How far a recording has been played.
 #[derive(Clone, Copy)]
 struct Head {
     at: usize,
-    landing: Landing,
-    waiting: Waiting,
+    landing: Option<usize>,
+    waiting: Option<Part>,
 }
 
 // An exchange: what it tells of is done on the image; where the next write data lands.
 fn replay_exchange(
     image: &mut [u8],
     profile: Profile,
-    landing: Landing,
+    landing: Option<usize>,
     request: &[u8],
     reply: &[u8],
-) -> Landing
+) -> Option<usize>
     requires { CanMove landing (length request.now) }
     ensures { record { image = image.exit.now; landing = result } ≡ entry_replay (areas_of profile) (exchange request.now reply.now) (record { image = image.entry.now; landing = landing }) }
 {
     let told = read_exchange(request, reply, landing);
-    let act = told.act;
-    flash::perform(image, profile, act, packet_fields::info(request));
+    flash::perform(image, profile, told.act, packet_fields::info(request));
     told.landing
 }
 
@@ -52,32 +44,23 @@ fn answered(image: &mut [u8], profile: Profile, recording: &[u8], head: Head, pa
     requires { HeadIn (length recording.now) head × (found_at recording.now head.at ≡ Is Device part) }
     ensures { Advanced profile recording.now image.old image.new head result }
 {
-    let landing = head.landing;
-    let waiting = head.waiting;
-    match waiting {
-        Waiting::Nothing => Head {
+    match head.waiting {
+        None => Head {
             at: part.to,
-            landing,
-            waiting: Waiting::Nothing,
+            waiting: None,
+            ..head
         },
-        Waiting::For(request) => {
-            let first = request.from;
-            let behind = request.to;
-            let from = part.from;
-            let to = part.to;
-            let next = replay_exchange(
+        Some(request) => Head {
+            at: part.to,
+            landing: replay_exchange(
                 image,
                 profile,
-                landing,
-                &recording[first..behind],
-                &recording[from..to],
-            );
-            Head {
-                at: to,
-                landing: next,
-                waiting: Waiting::Nothing,
-            }
-        }
+                head.landing,
+                &recording[request.from..request.to],
+                &recording[part.from..part.to],
+            ),
+            waiting: None,
+        },
     }
 }
 
@@ -93,22 +76,18 @@ fn advance(
     requires { HeadIn (length recording.now) head × (found_at recording.now head.at ≡ Is direction part) }
     ensures { Advanced profile recording.now image.old image.new head result }
 {
-    let landing = head.landing;
     match direction {
         Direction::Host => Head {
             at: part.to,
-            landing,
-            waiting: Waiting::For(part),
+            waiting: Some(part),
+            ..head
         },
         Direction::Device => answered(image, profile, recording, head, part),
-        Direction::Reset => {
-            let stays = head.landing;
-            Head {
-                at: part.to,
-                landing: stays,
-                waiting: Waiting::Nothing,
-            }
-        }
+        Direction::Reset => Head {
+            at: part.to,
+            waiting: None,
+            ..head
+        },
     }
 }
 
@@ -118,9 +97,10 @@ pub fn play(image: &mut [u8], profile: Profile, recording: &[u8]) -> Extent
 {
     let mut head = Head {
         at: 0,
-        landing: Landing::Nowhere,
-        waiting: Waiting::Nothing,
+        landing: None,
+        waiting: None,
     };
+    // Stays a loop: a reader that keeps its place in a recording belongs to a later request.
     loop {
         let found = recording::record_at(recording, head.at);
         let Found::Is(direction, part) = found else {

@@ -12,22 +12,21 @@ use Rattle.numbers.specs.Bytes.{bytes_of, with_number}
 use Rattle.numbers.proofs.Copied.{part_count, pasted}
 use Rattle.verdict.specs.Check.{first_fault}
 use Rattle.recording.specs.declared.Direction.{Direction}
-use Rattle.recording.specs.declared.Directed.TheVariants.{Unknown}
 use Rattle.recording.specs.declared.Fault.TheVariants.{BadDirection, BadLength, NoRoom}
 use Rattle.recording.specs.Format.{direction_number, directed_of, length_allowed, entry}
 use Rattle.recording.proofs.Laws.{directed_back}
 use Rattle.recording.proofs.Written.{entry_length}
-use Rattle.record_writer.specs.declared.Written.{Written}
-use Rattle.record_writer.specs.declared.Written.TheVariants.{Behind, Refused}
+use Rattle.std.specs.Prelude.{Result, None, Ok, Err}
+use Rattle.recording.specs.declared.Fault.{Fault}
 use Rattle.record_writer.specs.Writing.{writer_checks, Wrote}
 
 module _ (direction at : ℕ) (bytes before : List ℕ) where
-  pub direction_refused : directed_of direction ≡ Unknown → Wrote direction at bytes before before (Refused BadDirection)
+  pub direction_refused : directed_of direction ≡ None → Wrote direction at bytes before before (Err BadDirection)
   unfolding writer_checks first_fault
   direction_refused e = record { answers = rw e refl; leaves = rw e refl }
 
 module _ (d : Direction) (at : ℕ) (bytes before : List ℕ) where
-  pub length_refused : length_allowed (direction_number d) (length bytes) ≡ false → Wrote (direction_number d) at bytes before before (Refused BadLength)
+  pub length_refused : length_allowed (direction_number d) (length bytes) ≡ false → Wrote (direction_number d) at bytes before before (Err BadLength)
   unfolding writer_checks first_fault
   length_refused e = record { answers = rw (directed_back d, e) refl; leaves = rw (directed_back d, e) refl }
 
@@ -35,13 +34,13 @@ module _ (d : Direction) (at : ℕ) (bytes before : List ℕ) where
     same_room : leb (at + 5 + length bytes) (length before) ≡ leb (at + (length bytes + 5)) (length before)
     same_room = let e : at + 5 + length bytes ≡ at + (length bytes + 5) = omega arith in ap (λ (n : ℕ). leb n (length before)) e
 
-    pub room_refused : leb (at + (length bytes + 5)) (length before) ≡ false → Wrote (direction_number d) at bytes before before (Refused NoRoom)
+    pub room_refused : leb (at + (length bytes + 5)) (length before) ≡ false → Wrote (direction_number d) at bytes before before (Err NoRoom)
     unfolding writer_checks first_fault
     room_refused e = record { answers = rw (directed_back d, allowed, same_room, e) refl; leaves = rw (directed_back d, allowed, same_room, e) refl }
 
     pub record_written : leb (at + (length bytes + 5)) (length before) ≡ true → (after part : List ℕ) → part ≡ entry (direction_number d) bytes
         → after ≡ take at before ++ (part ++ drop (at + (length bytes + 5) - at) (drop at before))
-        → Wrote (direction_number d) at bytes before after (Behind (at + (length bytes + 5)))
+        → Wrote (direction_number d) at bytes before after (Ok (at + (length bytes + 5)))
     unfolding writer_checks first_fault
     record_written e after part p a =
         let behind : at + (length bytes + 5) ≡ at + 5 + length bytes = omega arith in
@@ -49,13 +48,13 @@ module _ (d : Direction) (at : ℕ) (bytes before : List ℕ) where
         let rest : drop (at + (length bytes + 5) - at) (drop at before) ≡ drop (at + 5 + length bytes) before =
         ap (λ (n : ℕ). drop n (drop at before)) count ∙ drop-drop (length bytes + 5) at before ∙ ap (λ (n : ℕ). drop n before) behind in
         record {
-          answers = rw (directed_back d, allowed, same_room, e) (ap Behind behind);
+          answers = rw (directed_back d, allowed, same_room, e) (ap Ok behind);
           leaves =
               rw (directed_back d, allowed, same_room, e) (a ∙ rw (p, rest) refl);
         }
 
 -- a record by its direction's byte
-pub written_as : {n m at : ℕ} {bytes before after : List ℕ} {r : Written} → n ≡ m → Wrote m at bytes before after r → Wrote n at bytes before after r
+pub written_as : {n m at : ℕ} {bytes before after : List ℕ} {r : Result ℕ Fault} → n ≡ m → Wrote m at bytes before after r → Wrote n at bytes before after r
 written_as {n} {m} {at} {bytes} {before} {after} {r} e w = subst (λ (k : ℕ). Wrote k at bytes before after r) (sym e) w
 
 -- mark, direction, length and bytes, stored one after the other into a part that is as long as the record

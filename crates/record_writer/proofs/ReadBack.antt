@@ -2,7 +2,7 @@
 use mathlib.Core.Bool.{true, false, not}
 use mathlib.Core.List.{List, [], ◌∷◌, ◌++◌, append_assoc, append-nil}
 use mathlib.Core.Logic.{◌↔◌}
-use mathlib.Core.Option.{Option, none, some}
+use Rattle.std.specs.Prelude.{Option, None, Some, Result, Ok, Err}
 use mathlib.Core.Path.{◌≡◌, refl, sym, ap, subst, ◌∙◌}
 use Prim.Native.Nat.{ℕ, ◌+◌, ◌≤◌}
 use native.Mathlib.Omega.{arith}
@@ -14,8 +14,6 @@ use Rattle.verdict.specs.Check.{Check, first_fault, NoneApplies, IsFirst}
 use Rattle.verdict.proofs.FirstFault.{clear, grants, first, first_found}
 use Rattle.verdict.proofs.OneAnswer.{one_answer}
 use Rattle.recording.specs.declared.Direction.{Direction}
-use Rattle.recording.specs.declared.Directed.{Directed}
-use Rattle.recording.specs.declared.Directed.TheVariants.{Known, Unknown}
 use Rattle.recording.specs.declared.Fault.{Fault}
 use Rattle.recording.specs.declared.Fault.TheVariants.{BadMark, BadDirection, BadLength, CutShort, NoRoom}
 use Rattle.recording.specs.declared.Part.{Part}
@@ -26,46 +24,44 @@ use Rattle.recording.proofs.Laws.{directed_number, directed_back}
 use Rattle.recording.proofs.Written.{entry_length, entry_found, entry_bytes, reads_back, reads_whole}
 use Rattle.recording.proofs.Exactly.{record_tells, AllGive, gives_only}
 use Rattle.recording.proofs.Back.{read_allowed, read_entry, entry_read, entry_read_bytes, whole_back}
-use Rattle.record_writer.specs.declared.Written.{Written}
-use Rattle.record_writer.specs.declared.Written.TheVariants.{Behind, Refused}
 use Rattle.record_writer.specs.Writing.{writer_checks, written_by, left_by, written_of, left_of, Wrote, ReadsAt, WroteAll, none_written, one_written, WritesUp}
 
 -- no second outcome meets the promise
-pub wrote_once : {direction at : ℕ} {bytes before after after' : List ℕ} {r r' : Written} → Wrote direction at bytes before after r
+pub wrote_once : {direction at : ℕ} {bytes before after after' : List ℕ} {r r' : Result ℕ Fault} → Wrote direction at bytes before after r
     → Wrote direction at bytes before after' r' → (r ≡ r') × (after ≡ after')
 wrote_once a b = (one_answer a.answers b.answers, one_answer a.leaves b.leaves)
 
-known_is : (x : Directed) → is_known x ≡ true → (Y : Type 0) → ((d : Direction) → x ≡ Known d → Y) → Y
-known_is (Known d) e Y f = f d refl
-known_is Unknown e Y f = let z : ◌≡◌ {A = ℕ} 0 1 = cc in absurd (omega arith)
+known_is : (x : Option Direction) → is_known x ≡ true → (Y : Type 0) → ((d : Direction) → x ≡ Some d → Y) → Y
+known_is (Some d) e Y f = f d refl
+known_is None e Y f = let z : ◌≡◌ {A = ℕ} 0 1 = cc in absurd (omega arith)
 
-module _ (direction at : ℕ) (bytes before after : List ℕ) (r : Written) (w : Wrote direction at bytes before after r) where
+module _ (direction at : ℕ) (bytes before after : List ℕ) (r : Result ℕ Fault) (w : Wrote direction at bytes before after r) where
   abbrev checks : List (Check Fault)
   checks = writer_checks direction (length bytes) at (length before)
 
   -- refused exactly by the first fault, and then the buffer is as it was
-  pub unwritten_exactly : (f : Fault) → (r ≡ Refused f) ↔ IsFirst checks f
+  pub unwritten_exactly : (f : Fault) → (r ≡ Err f) ↔ IsFirst checks f
   unwritten_exactly f = (λ e. first checks f (by (first_fault checks) (sym w.answers ∙ e)), λ i. w.answers ∙ ap (λ (x : Option Fault). written_by x (at + head_length + length bytes)) (first_found checks f i))
     where
-      by : (x : Option Fault) → written_by x (at + head_length + length bytes) ≡ Refused f → x ≡ some f
-      by none e = let z : ◌≡◌ {A = ℕ} 0 1 = cc in absurd (omega arith)
-      by (some g) e = let k : g ≡ f = cc in ap some k
+      by : (x : Option Fault) → written_by x (at + head_length + length bytes) ≡ Err f → x ≡ Some f
+      by None e = let z : ◌≡◌ {A = ℕ} 0 1 = cc in absurd (omega arith)
+      by (Some g) e = let k : g ≡ f = cc in ap Some k
 
-  pub refused_leaves : (f : Fault) → r ≡ Refused f → after ≡ before
+  pub refused_leaves : (f : Fault) → r ≡ Err f → after ≡ before
   refused_leaves f e = w.leaves ∙ ap (λ (x : Option Fault). left_by x direction at bytes before) (first_found checks f ((unwritten_exactly f).0 e))
 
   -- written exactly where no fault applies
-  pub written_exactly : (n : ℕ) → (r ≡ Behind n) ↔ (NoneApplies checks × (n ≡ at + head_length + length bytes))
+  pub written_exactly : (n : ℕ) → (r ≡ Ok n) ↔ (NoneApplies checks × (n ≡ at + head_length + length bytes))
   written_exactly n = (
     λ e. let told = by (first_fault checks) (sym w.answers ∙ e) in (clear checks told.0, told.1),
-    λ h. w.answers ∙ ap (λ (x : Option Fault). written_by x (at + head_length + length bytes)) (grants checks h.0) ∙ ap Behind (sym h.1),
+    λ h. w.answers ∙ ap (λ (x : Option Fault). written_by x (at + head_length + length bytes)) (grants checks h.0) ∙ ap Ok (sym h.1),
   )
     where
-      by : (x : Option Fault) → written_by x (at + head_length + length bytes) ≡ Behind n → (x ≡ none) × (n ≡ at + head_length + length bytes)
-      by none e = (refl, cc)
-      by (some g) e = let z : ◌≡◌ {A = ℕ} 0 1 = cc in absurd (omega arith)
+      by : (x : Option Fault) → written_by x (at + head_length + length bytes) ≡ Ok n → (x ≡ None) × (n ≡ at + head_length + length bytes)
+      by None e = (refl, cc)
+      by (Some g) e = let z : ◌≡◌ {A = ℕ} 0 1 = cc in absurd (omega arith)
 
-  module _ (n : ℕ) (e : r ≡ Behind n) where
+  module _ (n : ℕ) (e : r ≡ Ok n) where
     pub place_behind : n ≡ at + head_length + length bytes
     place_behind = ((written_exactly n).0 e).1
 
@@ -118,7 +114,7 @@ module _ (direction at : ℕ) (bytes before after : List ℕ) (r : Written) (w :
     pub written_reads : ReadsAt after at direction bytes n
     written_reads = known_is (directed_of direction) direction_known (ReadsAt after at direction bytes n) by
       where
-        by : (d : Direction) → directed_of direction ≡ Known d → ReadsAt after at direction bytes n
+        by : (d : Direction) → directed_of direction ≡ Some d → ReadsAt after at direction bytes n
         by d k =
             let number : direction ≡ direction_number d = directed_number direction d k in
             let allowed : length_allowed (direction_number d) (length bytes) ≡ true = rw (← number) length_allowed_lem in
@@ -138,17 +134,17 @@ Writers BadLength = Unit {0}
 Writers CutShort = ⊥
 Writers NoRoom = Unit {0}
 
-module _ (direction at : ℕ) (bytes before after : List ℕ) (r : Written) (w : Wrote direction at bytes before after r) where
-  refuses : (f : Fault) → r ≡ Refused f → Writers f
+module _ (direction at : ℕ) (bytes before after : List ℕ) (r : Result ℕ Fault) (w : Wrote direction at bytes before after r) where
+  refuses : (f : Fault) → r ≡ Err f → Writers f
   unfolding AllGive writer_checks
   refuses f e =
       gives_only Writers (checks direction at bytes before after r w) f
       (first_found (checks direction at bytes before after r w) f ((unwritten_exactly direction at bytes before after r w f).0 e)) (tt, (tt, (tt, tt)))
 
-  pub never_bad_mark : r ≡ Refused BadMark → ⊥
+  pub never_bad_mark : r ≡ Err BadMark → ⊥
   never_bad_mark e = refuses BadMark e
 
-  pub never_cut_short : r ≡ Refused CutShort → ⊥
+  pub never_cut_short : r ≡ Err CutShort → ⊥
   never_cut_short e = refuses CutShort e
 
 -- records written one behind the other: the buffer's front is those before and the recording that they make
@@ -159,8 +155,8 @@ all_left _ _ _ _ _ (none_written at buffer) = (tt, sym (append-nil (take at buff
 all_left _ _ _ _ _ (one_written r rs at next to before between after w more) =
     let direction : ℕ = direction_number (direction_of r) in
     let rest = all_left rs next between to after more in
-    let here : take next between ≡ take at before ++ entry direction (payload r) = front_left direction at (payload r) before between (Behind next) w next refl in (
-      (length_allowed_lem direction at (payload r) before between (Behind next) w next refl, rest.0),
+    let here : take next between ≡ take at before ++ entry direction (payload r) = front_left direction at (payload r) before between (Ok next) w next refl in (
+      (length_allowed_lem direction at (payload r) before between (Ok next) w next refl, rest.0),
       rest.1 ∙ ap (λ (l : List ℕ). l ++ written rs) here ∙ append_assoc (take at before) (entry direction (payload r)) (written rs),
     )
 
@@ -171,12 +167,12 @@ all_place _ _ _ _ _ (none_written at buffer) = omega arith
 all_place _ _ _ _ _ (one_written r rs at next to before between after w more) =
     let direction : ℕ = direction_number (direction_of r) in
     let rest : to ≡ next + length (written rs) = all_place rs next between to after more in
-    let here : next ≡ at + head_length + length (payload r) = place_behind direction at (payload r) before between (Behind next) w next refl in
+    let here : next ≡ at + head_length + length (payload r) = place_behind direction at (payload r) before between (Ok next) w next refl in
     omega (arith, length-append (entry_of r) (written rs), entry_length direction (payload r))
 
 -- records that are formed are written wherever there is room for them
 known_direction : (d : Direction) → not (is_known (directed_of (direction_number d))) ≡ false
-known_direction d = ap (λ (x : Directed). not (is_known x)) (directed_back d)
+known_direction d = ap (λ (x : Option Direction). not (is_known x)) (directed_back d)
 
 none_applies : (r : Record) → Formed r → (at : ℕ) (before : List ℕ) → at + head_length + length (payload r) ≤ length before
     → NoneApplies (writer_checks (direction_number (direction_of r)) (length (payload r)) at (length before))
@@ -198,9 +194,9 @@ writes_up (r ∷ rs) formed at before room =
     let next : ℕ = at + head_length + length bytes in
     let between = left_of direction at bytes before in
     let free = none_applies r formed.0 at before (omega arith) in
-    let answer : Behind next ≡ written_of direction at bytes before = ap (λ (x : Option Fault). written_by x next) (sym (grants _ free)) in
-    let wrote : Wrote direction at bytes before between (Behind next) = record { answers = answer; leaves = refl } in
-    let same_length : length between ≡ length before = length_kept direction at bytes before between (Behind next) wrote next refl in
+    let answer : Ok next ≡ written_of direction at bytes before = ap (λ (x : Option Fault). written_by x next) (sym (grants _ free)) in
+    let wrote : Wrote direction at bytes before between (Ok next) = record { answers = answer; leaves = refl } in
+    let same_length : length between ≡ length before = length_kept direction at bytes before between (Ok next) wrote next refl in
     let rest = writes_up rs formed.1 next between (omega arith) in
     let place : next + length (written rs) ≡ at + length (entry_of r ++ written rs) = omega arith in
     record { after = rest.after; all = subst (λ (to : ℕ). WroteAll (r ∷ rs) at before to rest.after) place (one_written r rs at next _ before between rest.after wrote rest.all) }
@@ -239,7 +235,7 @@ module _ (s : List ℕ) (at direction : ℕ) (bytes : List ℕ) where
   unfolding NoneApplies
   entry_reads h there = known_is (directed_of direction) (not-false _ h.0) (ReadsAt s at direction bytes behind) by
     where
-      by : (d : Direction) → directed_of direction ≡ Known d → ReadsAt s at direction bytes behind
+      by : (d : Direction) → directed_of direction ≡ Some d → ReadsAt s at direction bytes behind
       by d k =
           let number : direction ≡ direction_number d = directed_number direction d k in
           let allowed : length_allowed (direction_number d) (length bytes) ≡ true = rw (← number) (not-false _ h.1.0) in

@@ -1,6 +1,5 @@
 -- Writing a record into a lent buffer at a place.
-use Rattle.std.specs.Prelude.{not, List, [], ◌∷◌, ◌++◌, ◌≡◌, ℕ, ◌+◌, length, take, drop, leb}
-use Rattle.std.proofs.Math.Option.{Option, none, some}
+use Rattle.std.specs.Prelude.{not, List, [], ◌∷◌, ◌++◌, ◌≡◌, ℕ, ◌+◌, length, take, drop, leb, Option, None, Some, Result, Ok, Err}
 use Rattle.verdict.specs.Check.{Check, ◌gives◌, first_fault}
 use Rattle.recording.specs.declared.Fault.{Fault}
 use Rattle.recording.specs.declared.Fault.TheVariants.{NoRoom}
@@ -8,8 +7,6 @@ use Rattle.recording.specs.declared.Direction.{Direction}
 use Rattle.recording.specs.declared.Found.TheVariants.{Is}
 use Rattle.recording.specs.Format.{head_length, direction_number, rules, entry, Record, direction_of, payload}
 use Rattle.recording.specs.Recording.{found_at, bytes_in}
-use Rattle.record_writer.specs.declared.Written.{Written}
-use Rattle.record_writer.specs.declared.Written.TheVariants.{Behind, Refused}
 
 -- what is wrong with a record of so many bytes, to be written at a place of a buffer of so many: a record's two rules, then the room
 unfoldable pub writer_checks : ℕ → ℕ → ℕ → ℕ → List (Check Fault)
@@ -20,23 +17,23 @@ abbrev pub writer_fault : ℕ → ℕ → List ℕ → List ℕ → Option Fault
 writer_fault direction at bytes buffer = first_fault (writer_checks direction (length bytes) at (length buffer))
 
 -- the place behind the record, or why there is none
-abbrev pub written_by : Option Fault → ℕ → Written
-written_by none behind = Behind behind
-written_by (some fault) behind = Refused fault
+abbrev pub written_by : Option Fault → ℕ → Result ℕ Fault
+written_by None behind = Ok behind
+written_by (Some fault) behind = Err fault
 
 -- the buffer: the record between what stood before and behind it, or as it was
 abbrev pub left_by : Option Fault → ℕ → ℕ → List ℕ → List ℕ → List ℕ
-left_by none direction at bytes buffer = take at buffer ++ (entry direction bytes ++ drop (at + head_length + length bytes) buffer)
-left_by (some fault) direction at bytes buffer = buffer
+left_by None direction at bytes buffer = take at buffer ++ (entry direction bytes ++ drop (at + head_length + length bytes) buffer)
+left_by (Some fault) direction at bytes buffer = buffer
 
 -- what writing answers and leaves
-abbrev pub written_of : ℕ → ℕ → List ℕ → List ℕ → Written
+abbrev pub written_of : ℕ → ℕ → List ℕ → List ℕ → Result ℕ Fault
 written_of direction at bytes buffer = written_by (writer_fault direction at bytes buffer) (at + head_length + length bytes)
 
 abbrev pub left_of : ℕ → ℕ → List ℕ → List ℕ → List ℕ
 left_of direction at bytes buffer = left_by (writer_fault direction at bytes buffer) direction at bytes buffer
 
-pub record Wrote (direction at : ℕ) (bytes before after : List ℕ) (r : Written) : Type 0 where
+pub record Wrote (direction at : ℕ) (bytes before after : List ℕ) (r : Result ℕ Fault) : Type 0 where
   pub answers : r ≡ written_of direction at bytes before
   pub leaves : after ≡ left_of direction at bytes before
 
@@ -51,7 +48,7 @@ pub record ReadsAt (recording : List ℕ) (at direction : ℕ) (bytes : List ℕ
 pub data WroteAll : List Record → ℕ → List ℕ → ℕ → List ℕ → Type 0 where
   none_written : (at : ℕ) (buffer : List ℕ) → WroteAll [] at buffer at buffer
   one_written : (r : Record) (rs : List Record) (at next to : ℕ) (before between after : List ℕ)
-      → Wrote (direction_number (direction_of r)) at (payload r) before between (Behind next) → WroteAll rs next between to after
+      → Wrote (direction_number (direction_of r)) at (payload r) before between (Ok next) → WroteAll rs next between to after
       → WroteAll (r ∷ rs) at before to after
 
 -- records that calls do write from a place on, up to another

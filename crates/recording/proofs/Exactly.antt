@@ -3,7 +3,7 @@
 use mathlib.Core.Bool.{Bool, true, false, cond}
 use mathlib.Core.List.{List, [], ◌∷◌}
 use mathlib.Core.Logic.{◌↔◌}
-use mathlib.Core.Option.{Option, none, some}
+use Rattle.std.specs.Prelude.{Option, None, Some}
 use mathlib.Core.Path.{◌≡◌, refl, sym, ap, subst, ◌∙◌}
 use Prim.Native.Nat.{ℕ}
 use native.Mathlib.Omega.{arith}
@@ -13,8 +13,6 @@ use borrow.Author.Tests.{eq-eqb, eqb-true}
 use Rattle.verdict.specs.Check.{Check, ◌gives◌, first_fault, IsFirst}
 use Rattle.verdict.proofs.FirstFault.{found, first, first_found}
 use Rattle.recording.specs.declared.Direction.{Direction}
-use Rattle.recording.specs.declared.Directed.{Directed}
-use Rattle.recording.specs.declared.Directed.TheVariants.{Known, Unknown}
 use Rattle.recording.specs.declared.Fault.{Fault}
 use Rattle.recording.specs.declared.Fault.TheVariants.{BadMark, BadDirection, BadLength, CutShort, NoRoom}
 use Rattle.recording.specs.declared.Part.{Part}
@@ -28,9 +26,9 @@ use Rattle.recording.proofs.Reading.{Checked, checked, lies, Lies}
 -- what was found is the end, a record to which no check applies, or the first fault
 pub data Tells (s : List ℕ) (at : ℕ) : Found → Type 0 where
   at_end : at ≡ length s → Tells s at End
-  one : (at ≡ length s → ⊥) → (d : Direction) → Checked s at → first_fault (read_checks s at) ≡ none → directed_of (direction_at s at) ≡ Known d
+  one : (at ≡ length s → ⊥) → (d : Direction) → Checked s at → first_fault (read_checks s at) ≡ None → directed_of (direction_at s at) ≡ Some d
       → Tells s at (Is d (part_at s at))
-  fault : (at ≡ length s → ⊥) → (f : Fault) → first_fault (read_checks s at) ≡ some f → Tells s at (Refused f)
+  fault : (at ≡ length s → ⊥) → (f : Fault) → first_fault (read_checks s at) ≡ Some f → Tells s at (Refused f)
 
 off_end : (at n : ℕ) → eqb at n ≡ false → at ≡ n → ⊥
 off_end at n t e =
@@ -42,14 +40,14 @@ pub tells : (s : List ℕ) (at : ℕ) → Tells s at (found_at s at)
 unfolding found_at
 tells s at = by (eqb at (length s)) refl
   where
-    known : (k : Directed) → is_known k ≡ true → directed_of (direction_at s at) ≡ k → (at ≡ length s → ⊥) → first_fault (read_checks s at) ≡ none
-        → Tells s at (found_by none k (part_at s at))
-    known (Known d) i e off n = one off d (checked s at n) n e
-    known Unknown i e off n = let z : ◌≡◌ {A = ℕ} 0 1 = cc in absurd (omega arith)
+    known : (k : Option Direction) → is_known k ≡ true → directed_of (direction_at s at) ≡ k → (at ≡ length s → ⊥) → first_fault (read_checks s at) ≡ None
+        → Tells s at (found_by None k (part_at s at))
+    known (Some d) i e off n = one off d (checked s at n) n e
+    known None i e off n = let z : ◌≡◌ {A = ℕ} 0 1 = cc in absurd (omega arith)
 
     found : (f : Option Fault) → first_fault (read_checks s at) ≡ f → (at ≡ length s → ⊥) → Tells s at (found_by f (directed_of (direction_at s at)) (part_at s at))
-    found (some f) e off = fault off f e
-    found none e off = known (directed_of (direction_at s at)) (checked s at e).known refl off e
+    found (Some f) e off = fault off f e
+    found None e off = known (directed_of (direction_at s at)) (checked s at e).known refl off e
 
     by : (t : Bool) → eqb at (length s) ≡ t
         → Tells s at (cond t End (found_by (first_fault (read_checks s at)) (directed_of (direction_at s at)) (part_at s at)))
@@ -66,12 +64,12 @@ module _ (s : List ℕ) (at : ℕ) where
       by : (x : Found) → Tells s at x → x ≡ Refused f → (at ≡ length s → ⊥) × IsFirst (read_checks s at) f
       by _ (at_end h) e = let z : ◌≡◌ {A = ℕ} 0 1 = cc in absurd (omega arith)
       by _ (one off d k n t) e = let z : ◌≡◌ {A = ℕ} 0 1 = cc in absurd (omega arith)
-      by _ (fault off g n) e = let same_fault : g ≡ f = cc in (off, first (read_checks s at) f (n ∙ ap some same_fault))
+      by _ (fault off g n) e = let same_fault : g ≡ f = cc in (off, first (read_checks s at) f (n ∙ ap Some same_fault))
 
-      back : (x : Found) → Tells s at x → (at ≡ length s → ⊥) → first_fault (read_checks s at) ≡ some f → x ≡ Refused f
+      back : (x : Found) → Tells s at x → (at ≡ length s → ⊥) → first_fault (read_checks s at) ≡ Some f → x ≡ Refused f
       back _ (at_end h) off e = absurd (off h)
       back _ (one o d k n t) off e = let z : ◌≡◌ {A = ℕ} 0 1 = cc in absurd (omega arith)
-      back _ (fault o g n) off e = let same_fault : some g ≡ some f = sym n ∙ e in cc
+      back _ (fault o g n) off e = let same_fault : Some g ≡ Some f = sym n ∙ e in cc
 
   -- no check applies to a record, its direction is the byte's, its part the one behind its head
   pub record_tells : (d : Direction) (part : Part) → found_at s at ≡ Is d part → Checked s at × (direction_at s at ≡ direction_number d) × (part ≡ part_at s at)
@@ -90,7 +88,7 @@ unfoldable pub AllGive : (Fault → Type 0) → List (Check Fault) → Type 0
 AllGive P [] = Unit {0}
 AllGive P ((applies gives f) ∷ later) = P f × AllGive P later
 
-pub gives_only : (P : Fault → Type 0) (cs : List (Check Fault)) (f : Fault) → first_fault cs ≡ some f → AllGive P cs → P f
+pub gives_only : (P : Fault → Type 0) (cs : List (Check Fault)) (f : Fault) → first_fault cs ≡ Some f → AllGive P cs → P f
 unfolding first_fault AllGive
 gives_only P [] f e all = absurd (found (sym e))
 gives_only P ((true gives g) ∷ later) f e all = let same_fault : g ≡ f = cc in subst P same_fault all.0

@@ -8,57 +8,49 @@ use lib.ListN.{length, take, drop, get_or}
 use lib.Dec.{leb, eqb}
 use lib.Seq.{drop-cons}
 use borrow.Author.Tests.{le-leb, eq-eqb, ne_eqb, eqb-true}
-use Rattle.numbers.specs.Bytes.{number, field, number_at}
+use Rattle.numbers.specs.Bytes.{field, number_at, value_at}
 use Rattle.numbers.specs.Same.{same}
-use Rattle.numbers.specs.declared.Number.TheVariants.{Is as Number, CutShort as NumberCut}
 use Rattle.verdict.specs.Check.{first_fault}
 use Rattle.recording.specs.declared.Direction.{Direction}
 use Rattle.recording.specs.declared.Direction.TheVariants.{Host, Device, Reset}
-use Rattle.recording.specs.declared.Directed.TheVariants.{Known, Unknown}
 use Rattle.recording.specs.declared.Fault.TheVariants.{BadMark, BadDirection, BadLength, CutShort}
 use Rattle.recording.specs.declared.Found.{Found}
 use Rattle.recording.specs.declared.Found.TheVariants.{Is, End, Refused}
 use Rattle.recording.specs.Format.{mark, direction_number, directed_in, directed_of, length_allowed}
+use Rattle.std.specs.Prelude.{Some, None}
+use Rattle.std.specs.Option.{unwrap_or}
 use Rattle.recording.specs.Recording.{count_at, direction_at, part_at, length_checks, read_checks, found_by, found_at}
 
 -- the directions and their numbers
-pub directed_back : (d : Direction) → directed_of (direction_number d) ≡ Known d
+pub directed_back : (d : Direction) → directed_of (direction_number d) ≡ Some d
 unfolding directed_of directed_in
 directed_back Host = refl
 directed_back Device = refl
 directed_back Reset = refl
 
-known_in : (ds : List Direction) (n : ℕ) (d : Direction) → directed_in ds n ≡ Known d → n ≡ direction_number d
+known_in : (ds : List Direction) (n : ℕ) (d : Direction) → directed_in ds n ≡ Some d → n ≡ direction_number d
 unfolding directed_in
 known_in [] n d e = let z : ◌≡◌ {A = ℕ} 0 1 = cc in absurd (omega arith)
 known_in (x ∷ more) n d e = by (eqb n (direction_number x)) refl (known_in more n d) e
   where
-    by : (t : Bool) → eqb n (direction_number x) ≡ t → (directed_in more n ≡ Known d → n ≡ direction_number d) → cond t (Known x) (directed_in more n) ≡ Known d
+    by : (t : Bool) → eqb n (direction_number x) ≡ t → (directed_in more n ≡ Some d → n ≡ direction_number d) → cond t (Some x) (directed_in more n) ≡ Some d
         → n ≡ direction_number d
     by true t later k = let same-direction : x ≡ d = cc in eqb-true n (direction_number x) t ∙ ap direction_number same-direction
     by false t later k = later k
 
-pub directed_number : (n : ℕ) (d : Direction) → directed_of n ≡ Known d → n ≡ direction_number d
+pub directed_number : (n : ℕ) (d : Direction) → directed_of n ≡ Some d → n ≡ direction_number d
 unfolding directed_of
 directed_number n d e = known_in (Host ∷ Device ∷ Reset ∷ []) n d e
 
 pub direction_once : (d e : Direction) → direction_number d ≡ direction_number e → d ≡ e
-direction_once d e h = let k : Known d ≡ Known e = sym (directed_back d) ∙ ap directed_of h ∙ directed_back e in cc
+direction_once d e h = let k : Some d ≡ Some e = sym (directed_back d) ∙ ap directed_of h ∙ directed_back e in cc
 
 -- the length, read as the code reads it
-pub count_is : (s : List ℕ) (at n : ℕ) → at + 5 ≤ length s → number_at 2 s (at + 3) ≡ Number n → n ≡ count_at s at
-unfolding number_at count_at
-count_is s at n h e =
+pub count_is : (s : List ℕ) (at : ℕ) → at + 5 ≤ length s → unwrap_or (number_at 2 s (at + 3)) 0 ≡ count_at s at
+unfolding value_at count_at
+count_is s at h =
     let t : leb (at + 3 + 2) (length s) ≡ true = le-leb (at + 3 + 2) (length s) (omega arith) in
-    let i : Number (number (field 2 (at + 3) s)) ≡ Number n = rw t at e in
-    cc
-
-pub count_whole : (s : List ℕ) (at k : ℕ) → at + 5 ≤ length s → number_at 2 s (at + 3) ≡ NumberCut → k ≡ count_at s at
-unfolding number_at
-count_whole s at k h e =
-    let t : leb (at + 3 + 2) (length s) ≡ true = le-leb (at + 3 + 2) (length s) (omega arith) in
-    let i : Number (number (field 2 (at + 3) s)) ≡ NumberCut = rw t at e in
-    cc
+    rw t refl
 
 -- a mark that is whole, byte by byte
 pub mark_is : (s : List ℕ) (at : ℕ) → at + 2 ≤ length s → eqb (get_or s at 0) 0x52 && eqb (get_or s (at + 1) 0) 0x4C ≡ same (field 2 at s) mark
@@ -80,7 +72,7 @@ mark_is s at h =
 -- a record from its length on, by the tests in their order
 module _ (s : List ℕ) (at : ℕ) (d : Direction) where
   abbrev from_length : Found
-  from_length = found_by (first_fault (length_checks s at (direction_number d))) (Known d) (part_at s at)
+  from_length = found_by (first_fault (length_checks s at (direction_number d))) (Some d) (part_at s at)
 
   pub head_cut : leb (at + 5) (length s) ≡ false → Refused CutShort ≡ from_length
   unfolding length_checks first_fault
@@ -122,10 +114,10 @@ module _ (s : List ℕ) (at : ℕ) where
         direction_cut e = rw (ne_eqb at (length s) off, h, m, e) refl
 
         module _ (k : leb (at + 3) (length s) ≡ true) where
-          pub direction_bad : directed_of (direction_at s at) ≡ Unknown → Refused BadDirection ≡ found_at s at
+          pub direction_bad : directed_of (direction_at s at) ≡ None → Refused BadDirection ≡ found_at s at
           unfolding found_at read_checks first_fault
           direction_bad e = rw (ne_eqb at (length s) off, h, m, k, e) refl
 
-          pub direction_known : (d : Direction) → directed_of (direction_at s at) ≡ Known d → from_length s at d ≡ found_at s at
+          pub direction_known : (d : Direction) → directed_of (direction_at s at) ≡ Some d → from_length s at d ≡ found_at s at
           unfolding found_at read_checks first_fault
           direction_known d e = rw (ne_eqb at (length s) off, h, m, k, e, directed_number (direction_at s at) d e) refl

@@ -3,7 +3,7 @@
 use mathlib.Core.Bool.{Bool, true, false, cond}
 use mathlib.Core.List.{List, [], ◌∷◌}
 use mathlib.Core.Logic.{◌⊎◌, inl, inr}
-use mathlib.Core.Option.{Option, none, some}
+use Rattle.std.specs.Prelude.{Option, None, Some}
 use mathlib.Core.Path.{◌≡◌, refl, sym, ap, subst, ◌∙◌}
 use Prim.Native.Nat.{ℕ, zero, suc, ◌-◌, ◌≤◌, ◌<◌}
 use native.Mathlib.Omega.{arith}
@@ -16,8 +16,6 @@ use Rattle.numbers.specs.Same.{same}
 use Rattle.verdict.specs.Check.{first_fault, NoneApplies}
 use Rattle.verdict.proofs.FirstFault.{clear}
 use Rattle.recording.specs.declared.Direction.{Direction}
-use Rattle.recording.specs.declared.Directed.{Directed}
-use Rattle.recording.specs.declared.Directed.TheVariants.{Known, Unknown}
 use Rattle.recording.specs.declared.Fault.{Fault}
 use Rattle.recording.specs.declared.Part.{Part}
 use Rattle.recording.specs.declared.Found.{Found}
@@ -35,7 +33,7 @@ pub record Checked (s : List ℕ) (at : ℕ) : Type 0 where
   pub allowed : length_allowed (direction_at s at) (count_at s at) ≡ true
   pub fits : (part_at s at).to ≤ length s
 
-pub checked : (s : List ℕ) (at : ℕ) → first_fault (read_checks s at) ≡ none → Checked s at
+pub checked : (s : List ℕ) (at : ℕ) → first_fault (read_checks s at) ≡ None → Checked s at
 unfolding NoneApplies read_checks length_checks
 checked s at e =
     let n = clear (read_checks s at) e in
@@ -56,10 +54,10 @@ pub lies : (s : List ℕ) (at : ℕ) → Lies at (length s) (found_at s at)
 unfolding found_at
 lies s at = by (eqb at (length s)) refl
   where
-    found : (f : Option Fault) (direction : Directed) → (f ≡ none → (part_at s at).to ≤ length s) → Lies at (length s) (found_by f direction (part_at s at))
-    found (some fault) direction h = tt
-    found none (Known d) h = record { head = refl; order = omega arith; fits = h refl }
-    found none Unknown h = tt
+    found : (f : Option Fault) (direction : Option Direction) → (f ≡ None → (part_at s at).to ≤ length s) → Lies at (length s) (found_by f direction (part_at s at))
+    found (Some fault) direction h = tt
+    found None (Some d) h = record { head = refl; order = omega arith; fits = h refl }
+    found None None h = tt
 
     by : (t : Bool) → eqb at (length s) ≡ t
         → Lies at (length s) (cond t End (found_by (first_fault (read_checks s at)) (directed_of (direction_at s at)) (part_at s at)))

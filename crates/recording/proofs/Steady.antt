@@ -11,8 +11,6 @@ use borrow.Author.Tests.{le-leb, leb-true}
 use Rattle.numbers.specs.Bytes.{number, field}
 use Rattle.numbers.specs.Same.{same}
 use Rattle.recording.specs.declared.Direction.{Direction}
-use Rattle.recording.specs.declared.Directed.{Directed}
-use Rattle.recording.specs.declared.Directed.TheVariants.{Known, Unknown}
 use Rattle.recording.specs.declared.Fault.{Fault}
 use Rattle.recording.specs.declared.Fault.TheVariants.{CutShort}
 use Rattle.recording.specs.declared.Part.{Part}
@@ -20,6 +18,7 @@ use Rattle.recording.specs.declared.Found.TheVariants.{Is, Refused}
 use Rattle.recording.specs.Format.{mark, direction_number, directed_of, length_allowed}
 use Rattle.recording.specs.Recording.{direction_at, count_at, part_at, found_at}
 use Rattle.recording.proofs.Laws.{directed_back, head_cut, length_bad, bytes_cut, bytes_there, mark_cut, mark_bad, direction_cut, direction_bad, direction_known}
+use Rattle.std.specs.Prelude.{Option, Some, None}
 use Rattle.recording.proofs.Exactly.{record_tells, refused_exactly}
 
 -- a field that is whole
@@ -77,7 +76,7 @@ module _ (s t : List ℕ) (at : ℕ) where
       three : at + 3 ≤ length s
       three = leb-true (at + 3) (length s) k
 
-      known_on : (d : Direction) → directed_of (direction_at s at) ≡ Known d → (w : Bool) → leb (at + 5) (length s) ≡ w
+      known_on : (d : Direction) → directed_of (direction_at s at) ≡ Some d → (w : Bool) → leb (at + 5) (length s) ≡ w
           → (a : Bool) → length_allowed (direction_number d) (count_at s at) ≡ a → (b : Bool) → leb (at + 5 + count_at s at) (length s) ≡ b
           → found_at (s ++ t) at ≡ Refused f
       known_on d x false w a l b g = absurd (cut (head_cut s at d w ∙ direction_known s at outside h m k d x))
@@ -92,9 +91,9 @@ module _ (s t : List ℕ) (at : ℕ) where
           let z : ◌≡◌ {A = ℕ} 0 1 = cc in
           absurd (omega arith)
 
-      directed_on : (x : Directed) → directed_of (direction_at s at) ≡ x → found_at (s ++ t) at ≡ Refused f
-      directed_on (Known d) x = known_on d x (leb (at + 5) (length s)) refl (length_allowed (direction_number d) (count_at s at)) refl (leb (at + 5 + count_at s at) (length s)) refl
-      directed_on Unknown x =
+      directed_on : (x : Option Direction) → directed_of (direction_at s at) ≡ x → found_at (s ++ t) at ≡ Refused f
+      directed_on (Some d) x = known_on d x (leb (at + 5) (length s)) refl (length_allowed (direction_number d) (count_at s at)) refl (leb (at + 5 + count_at s at) (length s)) refl
+      directed_on None x =
           same_fault (direction_bad s at outside h m k x)
           (direction_bad (s ++ t) at (off two) (longer s t (at + 2) h) (mark_on two ∙ m) (longer s t (at + 3) k) (direction_on three ∙ x))
 

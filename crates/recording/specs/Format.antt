@@ -1,12 +1,10 @@
 -- The form of a recording, for whoever reads or writes one: records one behind the other, each a mark 52h 4Ch, a direction (48h host,
 -- 44h device, 52h reset), a length in two bytes, high first, and that many bytes.
-use Rattle.std.specs.Prelude.{Bool, true, false, not, ◌&&◌, cond, List, [], ◌∷◌, ◌++◌, ◌≡◌, ℕ, length, leb, eqb}
+use Rattle.std.specs.Prelude.{Bool, true, false, not, ◌&&◌, cond, List, [], ◌∷◌, ◌++◌, ◌≡◌, ℕ, length, leb, eqb, Option, Some, None}
 use Rattle.numbers.specs.Bytes.{bytes_of}
 use Rattle.verdict.specs.Check.{Check, ◌gives◌}
 use Rattle.recording.specs.declared.Direction.{Direction}
 use Rattle.recording.specs.declared.Direction.TheVariants.{Host, Device, Reset}
-use Rattle.recording.specs.declared.Directed.{Directed}
-use Rattle.recording.specs.declared.Directed.TheVariants.{Known, Unknown}
 use Rattle.recording.specs.declared.Fault.{Fault}
 use Rattle.recording.specs.declared.Fault.TheVariants.{BadMark, BadDirection, BadLength, CutShort, NoRoom}
 
@@ -23,11 +21,11 @@ direction_number Device = 0x44
 direction_number Reset = 0x52
 
 -- the direction of a number; any number may be asked for
-unfoldable pub directed_in : List Direction → ℕ → Directed
-directed_in [] n = Unknown
-directed_in (d ∷ more) n = cond (eqb n (direction_number d)) (Known d) (directed_in more n)
+unfoldable pub directed_in : List Direction → ℕ → Option Direction
+directed_in [] n = None
+directed_in (d ∷ more) n = cond (eqb n (direction_number d)) (Some d) (directed_in more n)
 
-unfoldable pub directed_of : ℕ → Directed
+unfoldable pub directed_of : ℕ → Option Direction
 directed_of n = directed_in (Host ∷ Device ∷ Reset ∷ []) n
 
 -- 1 to 1,030 bytes, but none for a reset
@@ -35,9 +33,9 @@ unfoldable pub length_allowed : ℕ → ℕ → Bool
 length_allowed direction n = cond (eqb direction (direction_number Reset)) (eqb n 0) (leb 1 n && leb n 1030)
 
 -- the two rules of a record: its direction, then its length
-abbrev pub is_known : Directed → Bool
-is_known (Known d) = true
-is_known Unknown = false
+abbrev pub is_known : Option Direction → Bool
+is_known (Some d) = true
+is_known None = false
 
 abbrev pub direction_check : ℕ → Check Fault
 direction_check direction = not (is_known (directed_of direction)) gives BadDirection

@@ -1,13 +1,10 @@
 -- Reading a recording: what stands at a place; the records one behind the other; how far, and why no further.
-use Rattle.std.specs.Prelude.{not, cond, List, [], ◌∷◌, ◌≡◌, ℕ, zero, suc, ◌+◌, ◌-◌, ◌≤◌, length, take, drop, get_or, leb, eqb}
-use Rattle.std.proofs.Math.Option.{Option, none, some}
+use Rattle.std.specs.Prelude.{not, cond, List, [], ◌∷◌, ◌≡◌, ℕ, zero, suc, ◌+◌, ◌-◌, ◌≤◌, length, take, drop, get_or, leb, eqb, Option, None, Some}
 use Rattle.numbers.specs.Bytes.{number, field}
 use Rattle.numbers.specs.Same.{same}
 use Rattle.verdict.specs.Check.{Check, ◌gives◌, first_fault}
 use Rattle.recording.specs.declared.Direction.{Direction}
 use Rattle.recording.specs.declared.Direction.TheVariants.{Host, Device, Reset}
-use Rattle.recording.specs.declared.Directed.{Directed}
-use Rattle.recording.specs.declared.Directed.TheVariants.{Known, Unknown}
 use Rattle.recording.specs.declared.Fault.{Fault}
 use Rattle.recording.specs.declared.Fault.TheVariants.{BadMark, BadDirection, CutShort}
 use Rattle.recording.specs.declared.Part.{Part}
@@ -49,10 +46,10 @@ read_checks recording at =
     ∷ length_checks recording at (direction_at recording at)
 
 -- a record to which no check applies has a known direction (proofs/Exactly, `tells`)
-abbrev pub found_by : Option Fault → Directed → Part → Found
-found_by (some fault) direction part = Refused fault
-found_by none (Known direction) part = Is direction part
-found_by none Unknown part = Refused BadDirection
+abbrev pub found_by : Option Fault → Option Direction → Part → Found
+found_by (Some fault) direction part = Refused fault
+found_by None (Some direction) part = Is direction part
+found_by None None part = Refused BadDirection
 
 -- what stands at a place: at the end nothing, behind it what is cut short
 unfoldable pub found_at : List ℕ → ℕ → Found

@@ -1,15 +1,14 @@
 // Recordings of a line: which record stands at a place, or why there is none.
 #![tactic(auto)]
 
-ghost use Rattle.std.specs.Prelude.{◌&&◌, ◌≡◌, ◌+◌, ◌≤◌, leb, length};
+ghost use Rattle.std.specs.Prelude.{◌&&◌, ◌≡◌, ◌+◌, ◌≤◌, leb, length, ok_or};
 ghost use Rattle.numbers.specs.Bytes.{field};
 ghost use Rattle.numbers.specs.Same.{same};
 ghost use Rattle.verdict.specs.Check.{first_fault};
-ghost use Rattle.recording.specs.declared.Directed.TheVariants.{Known};
 ghost use Rattle.recording.specs.Format.{mark, direction_number, directed_of, length_allowed, fault_number};
 ghost use Rattle.recording.specs.Recording.{count_at, part_at, length_checks, found_by, found_at, found_number, ended_by, ended_number};
 
-use numbers::{Number, has_field};
+use numbers::has_field;
 
 // Who sent a record's bytes; a reset of the device has none.
 #[derive(Clone, Copy)]
@@ -17,13 +16,6 @@ pub enum Direction {
     Host,
     Device,
     Reset,
-}
-
-// A byte as a direction.
-#[derive(Clone, Copy)]
-pub enum Directed {
-    Known(Direction),
-    Unknown,
 }
 
 // Why a record is not read, or not written.
@@ -74,26 +66,37 @@ pub struct Extent {
     pub ended: Ended,
 }
 
+// A byte that is no direction.
+#[derive(Clone, Copy, Debug, PartialEq, Eq)]
+pub struct UnknownDirection(pub u8);
+
 // The byte of a direction: 48h host, 44h device, 52h reset.
-pub fn direction_number(direction: Direction) -> u8
-    ensures { result ≡ direction_number direction }
-{
-    match direction {
-        Direction::Host => 0x48,
-        Direction::Device => 0x44,
-        Direction::Reset => 0x52,
+impl From<Direction> for u8 {
+    ghost from_gives = { λ direction n. n ≡ direction_number direction };
+
+    fn from(direction: Direction) -> u8 {
+        match direction {
+            Direction::Host => 0x48,
+            Direction::Device => 0x44,
+            Direction::Reset => 0x52,
+        }
     }
 }
 
 // The direction of a byte.
-pub fn direction_of(byte: u8) -> Directed
-    ensures { result ≡ directed_of byte }
-{
-    match byte {
-        0x48 => Directed::Known(Direction::Host),
-        0x44 => Directed::Known(Direction::Device),
-        0x52 => Directed::Known(Direction::Reset),
-        _ => Directed::Unknown,
+impl TryFrom<u8> for Direction {
+    type Error = UnknownDirection;
+
+    ghost try_from_gives = { λ byte r. r ≡ ok_or (directed_of byte) (record { 0 = byte }) };
+
+    #[tactic(auto, unfolding(crate::specs::Format::directed_of, crate::specs::Format::directed_in))]
+    fn try_from(byte: u8) -> Result<Direction, UnknownDirection> {
+        match byte {
+            0x48 => Ok(Direction::Host),
+            0x44 => Ok(Direction::Device),
+            0x52 => Ok(Direction::Reset),
+            _ => Err(UnknownDirection(byte)),
+        }
     }
 }
 
@@ -119,26 +122,30 @@ pub fn is_allowed(direction: Direction, count: usize) -> bool
 }
 
 // The number of a fault.
-pub fn fault_number(fault: Fault) -> u8
-    ensures { result ≡ fault_number fault }
-{
-    match fault {
-        Fault::BadMark => 1,
-        Fault::BadDirection => 2,
-        Fault::BadLength => 3,
-        Fault::CutShort => 4,
-        Fault::NoRoom => 5,
+impl From<Fault> for u8 {
+    ghost from_gives = { λ fault n. n ≡ fault_number fault };
+
+    fn from(fault: Fault) -> u8 {
+        match fault {
+            Fault::BadMark => 1,
+            Fault::BadDirection => 2,
+            Fault::BadLength => 3,
+            Fault::CutShort => 4,
+            Fault::NoRoom => 5,
+        }
     }
 }
 
 // The number of what was found: a record's direction, 6 for the end, or the fault's.
-pub fn found_number(found: Found) -> u8
-    ensures { result ≡ found_number found }
-{
-    match found {
-        Found::Is(direction, _) => direction_number(direction),
-        Found::End => 6,
-        Found::Refused(fault) => fault_number(fault),
+impl From<Found> for u8 {
+    ghost from_gives = { λ found n. n ≡ found_number found };
+
+    fn from(found: Found) -> u8 {
+        match found {
+            Found::Is(direction, _) => u8::from(direction),
+            Found::End => 6,
+            Found::Refused(fault) => u8::from(fault),
+        }
     }
 }
 
@@ -154,13 +161,15 @@ pub fn ended_by(found: Found) -> Ended
 }
 
 // The number of an end: 0 if there was none, 6 for the recording's, or the fault's.
-pub fn ended_number(ended: Ended) -> u8
-    ensures { result ≡ ended_number ended }
-{
-    match ended {
-        Ended::Not => 0,
-        Ended::Whole => 6,
-        Ended::By(fault) => fault_number(fault),
+impl From<Ended> for u8 {
+    ghost from_gives = { λ ended n. n ≡ ended_number ended };
+
+    fn from(ended: Ended) -> u8 {
+        match ended {
+            Ended::Not => 0,
+            Ended::Whole => 6,
+            Ended::By(fault) => u8::from(fault),
+        }
     }
 }
 
@@ -180,16 +189,12 @@ fn count_at(recording: &[u8], at: usize) -> usize
     requires { at + 5 ≤ length recording.now }
     ensures { result ≡ count_at recording.now at }
 {
-    let number = numbers::read_two(recording, at + 3);
-    match number {
-        Number::Is(n) => n as usize,
-        Number::CutShort => 0,
-    }
+    numbers::read::<u16>(recording, at + 3).unwrap_or(0) as usize
 }
 
 // The record at a place, from its length on.
 fn directed_at(recording: &[u8], at: usize, direction: Direction) -> Found
-    ensures { result ≡ found_by (first_fault (length_checks recording.now at (direction_number direction))) (Known direction) (part_at recording.now at) }
+    ensures { result ≡ found_by (first_fault (length_checks recording.now at (direction_number direction))) (Some direction) (part_at recording.now at) }
 {
     let n = recording.len();
     if !has_field(n, at, 5) {
@@ -229,9 +234,8 @@ pub fn record_at(recording: &[u8], at: usize) -> Found
     if !has_field(n, at, 3) {
         return Found::Refused(Fault::CutShort);
     }
-    let direction = direction_of(recording[at + 2]);
-    match direction {
-        Directed::Unknown => Found::Refused(Fault::BadDirection),
-        Directed::Known(known) => directed_at(recording, at, known),
+    match Direction::try_from(recording[at + 2]) {
+        Err(_) => Found::Refused(Fault::BadDirection),
+        Ok(known) => directed_at(recording, at, known),
     }
 }

@@ -1,95 +1,117 @@
 // Prints the line setting of the known baud rates, and whether each is refused.
 #![tactic(auto)]
 
-use std::io;
+use baud::LineSetting;
+use show_common::Byte;
+use std::{fmt, io};
 use verdict::Verdict;
 
-// Source 001: tables 23 and 24.
-const TABLE_23: [u32; 7] = [9600, 1000000, 1500000, 2000000, 3000000, 3500000, 3750000];
-
-const TABLE_24: [u32; 4] = [9600, 1000000, 1500000, 2000000];
-
-// Source 003: its rows for two clocks.
-const ROWS_100_MHZ: [u32; 8] = [
-    9600, 115200, 500000, 1000000, 1500000, 2000000, 4000000, 6000000,
-];
-
-const ROWS_60_MHZ: [u32; 6] = [9600, 115200, 500000, 1000000, 1500000, 2000000];
-
-// Rate 0, and rates on both sides of each limit: of M, of ABCS and of 4 %.
-const EDGES: [u32; 11] = [
-    0, 3500, 3521, 3522, 3600, 1874999, 1875000, 1875001, 3906250, 3906251, 4000000,
-];
-
-// Rates at which M would differ if it were rounded more than once.
-const DIVIDED_ONCE: [u32; 3] = [4034, 4177, 4549];
-
-// A space, and a byte in hex.
-fn print_byte(rt: &impl Print, value: u8) -> io::Result<()> {
-    rt.write_all(b" ")?;
-    rt.write_all(&show_common::hex(value))
+// Rates under SCI and RMB.
+#[derive(Clone, Copy)]
+struct Table {
+    sci: u32,
+    rmb: u32,
+    rates: &'static [u32],
 }
 
-fn print_number(rt: &impl Print, value: u32) -> io::Result<()> {
-    print!(rt; " {value}")
-}
+const TABLES: [Table; 8] = [
+    // Source 001: tables 23 and 24.
+    Table {
+        sci: 60000000,
+        rmb: 4000000,
+        rates: &[9600, 1000000, 1500000, 2000000, 3000000, 3500000, 3750000],
+    },
+    Table {
+        sci: 24000000,
+        rmb: 4000000,
+        rates: &[9600, 1000000, 1500000, 2000000],
+    },
+    // Source 003: its rows for two clocks.
+    Table {
+        sci: 100000000,
+        rmb: 6000000,
+        rates: &[
+            9600, 115200, 500000, 1000000, 1500000, 2000000, 4000000, 6000000,
+        ],
+    },
+    Table {
+        sci: 60000000,
+        rmb: 4000000,
+        rates: &[9600, 115200, 500000, 1000000, 1500000, 2000000],
+    },
+    // Rate 0, and rates on both sides of each limit: of M, of ABCS and of 4 %.
+    Table {
+        sci: 60000000,
+        rmb: 4000000,
+        rates: &[
+            0, 3500, 3521, 3522, 3600, 1874999, 1875000, 1875001, 3906250, 3906251, 4000000,
+        ],
+    },
+    // Rates at which M would differ if it were rounded more than once.
+    Table {
+        sci: 60000000,
+        rmb: 4000000,
+        rates: &[4034, 4177, 4549],
+    },
+    // RMB itself, and one below it.
+    Table {
+        sci: 60000000,
+        rmb: 9600,
+        rates: &[9600],
+    },
+    Table {
+        sci: 60000000,
+        rmb: 9599,
+        rates: &[9600],
+    },
+];
+
+// Other clocks, for the rate after a reset.
+const CLOCKS: [u32; 7] = [1, 307199, 307200, 307201, 20000000, 24000000, 4294967295];
 
 // ABCS, BRR and MDDR; dashes where MDDR is unused, and for BRT 0, which has no setting.
-fn print_setting(rt: &impl Print, sci: u32, brt: u32) -> io::Result<()> {
-    if brt == 0 {
-        return print!(rt; " -- -- --");
+#[derive(Clone, Copy)]
+struct Setting(Option<LineSetting>);
+
+impl fmt::Display for Setting {
+    fn fmt<W: fmt::Write>(&self, f: &mut fmt::Formatter<W>) -> fmt::Result {
+        match self.0 {
+            None => write!(f, "-- -- --"),
+            Some(line) if line.mddr == 0 => write!(f, "{} {} --", line.abcs, Byte(line.brr)),
+            Some(line) => write!(f, "{} {} {}", line.abcs, Byte(line.brr), Byte(line.mddr)),
+        }
     }
-    let line = baud::setting(sci, brt);
-    print_number(rt, line.abcs as u32)?;
-    print_byte(rt, line.brr)?;
-    if line.mddr == 0 {
-        return print!(rt; " --");
-    }
-    print_byte(rt, line.mddr)
 }
 
-fn print_answer(rt: &impl Print, answer: Verdict) -> io::Result<()> {
-    match answer {
-        Verdict::Granted => print!(rt; " OK"),
-        Verdict::Refused(reason) => print_byte(rt, verdict::code(reason)),
+// What a check of the rate answers.
+#[derive(Clone, Copy)]
+struct Answer(Verdict);
+
+impl fmt::Display for Answer {
+    fn fmt<W: fmt::Write>(&self, f: &mut fmt::Formatter<W>) -> fmt::Result {
+        match self.0 {
+            Ok(()) => write!(f, "OK"),
+            Err(reason) => write!(f, "{}", Byte(u8::from(reason))),
+        }
     }
 }
 
 // One line.
 fn show(rt: &impl Print, sci: u32, rmb: u32, brt: u32) -> io::Result<()> {
-    print!(rt; "{sci}")?;
-    print_number(rt, brt)?;
-    print_setting(rt, sci, brt)?;
-    print_number(rt, rmb)?;
-    print_answer(rt, baud::check_rate(sci, rmb, brt))?;
-    println!(rt)
-}
-
-// A line for each rate of a table.
-fn show_all(rt: &impl Print, sci: u32, rmb: u32, rates: &[u32]) -> io::Result<()> {
-    for rate in rates {
-        show(rt, sci, rmb, *rate)?;
-    }
-    Ok(())
+    let setting = Setting((brt != 0).then(|| baud::setting(sci, brt)));
+    let answer = Answer(baud::check_rate(sci, rmb, brt));
+    println!(rt; "{sci} {brt} {setting} {rmb} {answer}")
 }
 
 fn main(rt: HostRuntime) -> io::Result<()> {
     println!(rt; "SCI BRT ABCS BRR MDDR RMB answer")?;
-    show_all(&rt, 60000000, 4000000, &TABLE_23)?;
-    show_all(&rt, 24000000, 4000000, &TABLE_24)?;
-    show_all(&rt, 100000000, 6000000, &ROWS_100_MHZ)?;
-    show_all(&rt, 60000000, 4000000, &ROWS_60_MHZ)?;
-    show_all(&rt, 60000000, 4000000, &EDGES)?;
-    show_all(&rt, 60000000, 4000000, &DIVIDED_ONCE)?;
-    // RMB itself, and one below it.
-    show(&rt, 60000000, 9600, 9600)?;
-    show(&rt, 60000000, 9599, 9600)?;
-    // The rate after a reset, under other clocks.
-    show(&rt, 1, 4000000, 9600)?;
-    show(&rt, 307199, 4000000, 9600)?;
-    show(&rt, 307200, 4000000, 9600)?;
-    show(&rt, 307201, 4000000, 9600)?;
-    show(&rt, 20000000, 4000000, 9600)?;
-    show(&rt, 24000000, 4000000, 9600)?;
-    show(&rt, 4294967295, 4000000, 9600)
+    for table in TABLES {
+        for rate in table.rates {
+            show(&rt, table.sci, table.rmb, *rate)?;
+        }
+    }
+    for sci in CLOCKS {
+        show(&rt, sci, 4000000, 9600)?;
+    }
+    Ok(())
 }

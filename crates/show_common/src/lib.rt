@@ -1,26 +1,15 @@
-// What the programs that show vectors share: hexadecimal text and the bench profile.
+// What the programs that show vectors share: bytes and requests as they print them, and the bench profile.
 #![tactic(auto)]
 
-ghost use Rattle.std.specs.Prelude.{◌≡◌, ◌<◌};
+ghost use Rattle.std.specs.Prelude.{◌≡◌};
 ghost use Rattle.profile.specs.Bench.{bench};
-ghost use Rattle.show_common.specs.Hex.{digit_of, hex_of};
 
+mod bytes;
+mod words;
+
+pub use bytes::{Byte, Excerpt, Hex};
 use profile::{Area, Profile, Window};
-
-// A digit from 0 to F.
-fn digit(value: u8) -> u8
-    requires { value < 16 }
-    ensures { result ≡ digit_of value }
-{
-    if value < 10 { 48 + value } else { 55 + value }
-}
-
-// A byte as two digits, high one first.
-pub fn hex(byte: u8) -> [u8; 2]
-    ensures { result ≡ hex_of byte }
-{
-    [digit(byte / 16), digit(byte % 16)]
-}
+pub use words::RequestWords;
 
 // The bench profile of the protocol: 64 KB of user area and 256 bytes of config; no window.
 pub fn bench_profile() -> Profile

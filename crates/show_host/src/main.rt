@@ -1,8 +1,11 @@
 // Requests and their packets, and plans of writes. Each call has a line: what was given, and what is answered.
 #![tactic(auto)]
 
-use host_plan::{Following, Plan, Planned, Sending, Unplanned};
-use host_request::{Built, Request, Unbuilt};
+ghost use Rattle.std.specs.Prelude.{◌≤◌};
+
+use host_plan::{Plan, Unplanned};
+use host_request::{Request, Unbuilt};
+use show_common::{Excerpt, RequestWords};
 use std::io;
 
 // The total-erase code.
@@ -10,227 +13,135 @@ const CODE: [u8; 16] = [
     0x41, 0x4C, 0x65, 0x52, 0x41, 0x53, 0x45, 0xFF, 0xFF, 0xFF, 0xFF, 0xFF, 0xFF, 0xFF, 0xFF, 0xFF,
 ];
 
-fn print(rt: &impl Print, words: &str) -> io::Result<()> {
-    rt.print(words)
-}
+// What no packet begins with: where it still stands, nothing was written.
+const UNWRITTEN: u8 = 0xEE;
 
-fn print_title(rt: &impl Print, words: &str) -> io::Result<()> {
-    println!(rt; "== {words}")
-}
+// A buffer that any packet fits into.
+const ROOMY: usize = 1031;
 
-fn print_number(rt: &impl Print, words: &str, n: usize) -> io::Result<()> {
-    print!(rt; "{words}{n}")
-}
-
-fn print_byte(rt: &impl Print, byte: u8) -> io::Result<()> {
-    rt.write_all(&show_common::hex(byte))
-}
-
-// Bytes in hex, with a space between them.
-fn print_bytes(rt: &impl Print, bytes: &[u8]) -> io::Result<()> {
-    for (i, byte) in bytes.iter().enumerate() {
-        if 0 < i {
-            print(rt, " ")?;
-        }
-        print_byte(rt, *byte)?;
-    }
-    Ok(())
-}
-
-// All of the bytes, or of many the first eight and the last two.
-fn print_some(rt: &impl Print, bytes: &[u8]) -> io::Result<()> {
-    let n = bytes.len();
-    if n == 0 {
-        return print(rt, "no bytes");
-    }
-    if n <= 24 {
-        return print_bytes(rt, bytes);
-    }
-    let end = n - 2;
-    print_bytes(rt, &bytes[..8])?;
-    print(rt, " .. ")?;
-    print_bytes(rt, &bytes[end..])?;
-    print_number(rt, " (", n)?;
-    print(rt, " bytes)")
-}
-
-fn print_range(rt: &impl Print, words: &str, sad: u32, ead: u32) -> io::Result<()> {
-    print(rt, words)?;
-    print_number(rt, " ", sad as usize)?;
-    print_number(rt, " to ", ead as usize)
-}
-
-fn print_request(rt: &impl Print, request: Request) -> io::Result<()> {
-    match request {
-        Request::Inquiry => print(rt, "inquiry"),
-        Request::Erase(sad, ead) => print_range(rt, "erase", sad, ead),
-        Request::Write(sad, ead) => print_range(rt, "write", sad, ead),
-        Request::Read(sad, ead) => print_range(rt, "read", sad, ead),
-        Request::Authenticate => print(rt, "authenticate"),
-        Request::Baud(brt) => print_number(rt, "baud ", brt as usize),
-        Request::Signature => print(rt, "signature"),
-        Request::Area(n) => print_number(rt, "area ", n as usize),
-        Request::WriteData => print(rt, "write data"),
-        Request::Next(left) => print_number(rt, "next, left ", left as usize),
-    }
-}
-
-fn print_unbuilt(rt: &impl Print, why: Unbuilt) -> io::Result<()> {
+fn unbuilt_words(why: Unbuilt) -> &'static str {
     match why {
-        Unbuilt::WrongAmount => print(rt, "wrong amount"),
-        Unbuilt::NothingLeft => print(rt, "nothing left"),
-        Unbuilt::NoRoom => print(rt, "no room"),
+        Unbuilt::WrongAmount => "wrong amount",
+        Unbuilt::NothingLeft => "nothing left",
+        Unbuilt::NoRoom => "no room",
     }
 }
 
-fn print_unplanned(rt: &impl Print, why: Unplanned) -> io::Result<()> {
+fn unplanned_words(why: Unplanned) -> &'static str {
     match why {
-        Unplanned::Reversed => print(rt, "reversed"),
-        Unplanned::NoUnit => print(rt, "no unit"),
-        Unplanned::LongUnit => print(rt, "long unit"),
-        Unplanned::StartUnaligned => print(rt, "start unaligned"),
-        Unplanned::EndUnaligned => print(rt, "end unaligned"),
-        Unplanned::WrongAmount => print(rt, "wrong amount"),
+        Unplanned::Reversed => "reversed",
+        Unplanned::NoUnit => "no unit",
+        Unplanned::LongUnit => "long unit",
+        Unplanned::StartUnaligned => "start unaligned",
+        Unplanned::EndUnaligned => "end unaligned",
+        Unplanned::WrongAmount => "wrong amount",
     }
 }
 
-// Whether all bytes from a place on are the given one.
-fn is_all(bytes: &[u8], from: usize, value: u8) -> bool {
-    bytes.iter().skip(from).all(|byte| *byte == value)
-}
-
-// A request's packet in a buffer of EEh, and whether the rest of it stayed.
+// A request's packet in a buffer, and whether the rest of it stayed.
+#[tactic(auto, using(crate::proofs::Laws::within, crate::proofs::Laws::part_length))]
 fn show_built(
     rt: &impl Print,
     request: Request,
     bytes: &[u8],
     buffer: &mut [u8],
 ) -> io::Result<()> {
-    print_request(rt, request)?;
-    print_number(rt, " with ", bytes.len())?;
-    print_number(rt, " in ", buffer.len())?;
-    print(rt, ": ")?;
-    let built = host_request::build(buffer, request, bytes);
-    let mut end = 0;
-    match built {
-        Built::Is(n) => {
-            end = numbers::lower(n, buffer.len());
-            print_some(rt, &buffer[..end])?;
+    let words = RequestWords(request);
+    print!(rt; "{words} with {} in {}: ", bytes.len(), buffer.len())?;
+    let end = match host_request::build(buffer, request, bytes) {
+        Ok(n) => {
+            print!(rt; "{}", Excerpt(&buffer[..n]))?;
+            n
         }
-        Built::Refused(why) => print_unbuilt(rt, why)?,
+        Err(why) => {
+            rt.print(unbuilt_words(why))?;
+            0
+        }
+    };
+    if buffer.iter().skip(end).any(|byte| *byte != UNWRITTEN) {
+        print!(rt; ", and more was written")?;
     }
-    if is_all(buffer, end, 0xEE) {
-        print(rt, "\n")
-    } else {
-        print(rt, ", and more was written\n")
-    }
+    println!(rt)
 }
 
-// Into a buffer that any packet fits into.
-fn build(rt: &impl Print, request: Request, bytes: &[u8]) -> io::Result<()> {
-    let mut buffer = [0xEEu8; 1031];
-    show_built(rt, request, bytes, &mut buffer)
-}
-
-// Into one of seven bytes.
-fn build_short(rt: &impl Print, request: Request, bytes: &[u8]) -> io::Result<()> {
-    let mut buffer = [0xEEu8; 7];
-    show_built(rt, request, bytes, &mut buffer)
-}
-
-// Into one of thirteen: a command with a range has fourteen.
-fn build_thirteen(rt: &impl Print, request: Request, bytes: &[u8]) -> io::Result<()> {
-    let mut buffer = [0xEEu8; 13];
+// In a buffer of so many bytes.
+fn build<const SIZE: usize>(rt: &impl Print, request: Request, bytes: &[u8]) -> io::Result<()>
+    requires { SIZE ≤ 1031 }
+{
+    let mut buffer = [UNWRITTEN; SIZE];
     show_built(rt, request, bytes, &mut buffer)
 }
 
 fn build_commands(rt: &impl Print) -> io::Result<()> {
-    print_title(rt, "packets")?;
-    build(rt, Request::Inquiry, b"")?;
-    build(rt, Request::Erase(0x4000, 0x7FFF), b"")?;
-    build(rt, Request::Write(0, 0x7F), b"")?;
-    build(rt, Request::Read(0, 0xFFFF_FFFF), b"")?;
-    build(rt, Request::Read(1, 0), b"")?;
-    build(rt, Request::Authenticate, &CODE)?;
-    build(rt, Request::Baud(9600), b"")?;
-    build(rt, Request::Signature, b"")?;
-    build(rt, Request::Area(2), b"")?;
-    build(rt, Request::WriteData, &CODE)?;
-    build(rt, Request::WriteData, &[0xA5])?;
-    build(rt, Request::Next(1), b"")?;
-    build(rt, Request::Next(0xFFFF_FC00), b"")
+    println!(rt; "== packets")?;
+    build::<ROOMY>(rt, Request::Inquiry, b"")?;
+    build::<ROOMY>(rt, Request::Erase(0x4000, 0x7FFF), b"")?;
+    build::<ROOMY>(rt, Request::Write(0, 0x7F), b"")?;
+    build::<ROOMY>(rt, Request::Read(0, 0xFFFF_FFFF), b"")?;
+    build::<ROOMY>(rt, Request::Read(1, 0), b"")?;
+    build::<ROOMY>(rt, Request::Authenticate, &CODE)?;
+    build::<ROOMY>(rt, Request::Baud(9600), b"")?;
+    build::<ROOMY>(rt, Request::Signature, b"")?;
+    build::<ROOMY>(rt, Request::Area(2), b"")?;
+    build::<ROOMY>(rt, Request::WriteData, &CODE)?;
+    build::<ROOMY>(rt, Request::WriteData, &[0xA5])?;
+    build::<ROOMY>(rt, Request::Next(1), b"")?;
+    build::<ROOMY>(rt, Request::Next(0xFFFF_FC00), b"")
 }
 
 fn build_amounts(rt: &impl Print) -> io::Result<()> {
-    let many = [0x5Au8; 1025];
-    print_title(rt, "amounts")?;
-    build(rt, Request::WriteData, &many[..1024])?;
-    build(rt, Request::WriteData, &many)?;
-    build(rt, Request::WriteData, b"")?;
-    build(rt, Request::Authenticate, &many[..15])?;
-    build(rt, Request::Authenticate, &many[..17])?;
-    build(rt, Request::Inquiry, &many[..1])?;
-    build(rt, Request::Next(5), &many[..1])?;
-    build(rt, Request::Next(0), b"")?;
-    build(rt, Request::Next(0), &many[..1])
+    let many = [0x5A; 1025];
+    println!(rt; "== amounts")?;
+    build::<ROOMY>(rt, Request::WriteData, &many[..1024])?;
+    build::<ROOMY>(rt, Request::WriteData, &many)?;
+    build::<ROOMY>(rt, Request::WriteData, b"")?;
+    build::<ROOMY>(rt, Request::Authenticate, &many[..15])?;
+    build::<ROOMY>(rt, Request::Authenticate, &many[..17])?;
+    build::<ROOMY>(rt, Request::Inquiry, &many[..1])?;
+    build::<ROOMY>(rt, Request::Next(5), &many[..1])?;
+    build::<ROOMY>(rt, Request::Next(0), b"")?;
+    build::<ROOMY>(rt, Request::Next(0), &many[..1])
 }
 
+// Into seven bytes, and into thirteen: a command with a range has fourteen.
 fn build_room(rt: &impl Print) -> io::Result<()> {
-    print_title(rt, "room")?;
-    build_short(rt, Request::Inquiry, b"")?;
-    build_short(rt, Request::Area(0), b"")?;
-    build_short(rt, Request::Next(9), b"")?;
-    build_short(rt, Request::WriteData, &[1])?;
-    build_short(rt, Request::WriteData, &[1, 2])?;
-    build_short(rt, Request::WriteData, b"")?;
-    build_short(rt, Request::Next(0), b"")?;
-    build_thirteen(rt, Request::Erase(0, 0x1FFF), b"")?;
-    build_thirteen(rt, Request::Baud(115200), b"")
+    println!(rt; "== room")?;
+    build::<7>(rt, Request::Inquiry, b"")?;
+    build::<7>(rt, Request::Area(0), b"")?;
+    build::<7>(rt, Request::Next(9), b"")?;
+    build::<7>(rt, Request::WriteData, &[1])?;
+    build::<7>(rt, Request::WriteData, &[1, 2])?;
+    build::<7>(rt, Request::WriteData, b"")?;
+    build::<7>(rt, Request::Next(0), b"")?;
+    build::<13>(rt, Request::Erase(0, 0x1FFF), b"")?;
+    build::<13>(rt, Request::Baud(115200), b"")
 }
 
-// A request of a plan, and which of the bytes it sends.
-fn print_sending(rt: &impl Print, sending: Sending) -> io::Result<()> {
-    let request = sending.request;
-    print(rt, " ")?;
-    print_request(rt, request)?;
-    print_number(rt, " ", sending.from)?;
-    print_number(rt, "..", sending.to)?;
-    print(rt, ",")
-}
-
-// The requests of a plan up to its end, twelve at most.
+// The requests of a plan up to its end, twelve at most, each with the bytes that it sends.
 fn print_plan(rt: &impl Print, plan: Plan) -> io::Result<()> {
     let mut rest = plan;
-    for _ in 0u32..12 {
-        let following = host_plan::next_request(rest);
-        let Following::Send(sending) = following else {
-            return print(rt, " done");
+    for _ in 0..12 {
+        let Some(sending) = host_plan::next_request(rest) else {
+            return print!(rt; " done");
         };
-        print_sending(rt, sending)?;
+        let words = RequestWords(sending.request);
+        print!(rt; " {words} {}..{},", sending.from, sending.to)?;
         rest = sending.rest;
     }
-    print(rt, " and so on")
+    print!(rt; " and so on")
 }
 
 fn plan(rt: &impl Print, sad: u32, ead: u32, unit: u32, count: usize) -> io::Result<()> {
-    print_number(rt, "", sad as usize)?;
-    print_number(rt, " to ", ead as usize)?;
-    print_number(rt, " by ", unit as usize)?;
-    print_number(rt, ", bytes ", count)?;
-    print(rt, ":")?;
-    let planned = host_plan::plan_write(sad, ead, unit, count);
-    match planned {
-        Planned::Is(whole) => print_plan(rt, whole)?,
-        Planned::Refused(why) => {
-            print(rt, " ")?;
-            print_unplanned(rt, why)?;
-        }
+    print!(rt; "{sad} to {ead} by {unit}, bytes {count}:")?;
+    match host_plan::plan_write(sad, ead, unit, count) {
+        Ok(whole) => print_plan(rt, whole)?,
+        Err(why) => print!(rt; " {}", unplanned_words(why))?,
     }
-    print(rt, "\n")
+    println!(rt)
 }
 
 fn make_plans(rt: &impl Print) -> io::Result<()> {
-    print_title(rt, "plans")?;
+    println!(rt; "== plans")?;
     plan(rt, 0, 127, 128, 128)?;
     plan(rt, 0, 1023, 128, 1024)?;
     plan(rt, 0, 1151, 128, 1152)?;
@@ -242,7 +153,7 @@ fn make_plans(rt: &impl Print) -> io::Result<()> {
 }
 
 fn refuse_plans(rt: &impl Print) -> io::Result<()> {
-    print_title(rt, "no plans")?;
+    println!(rt; "== no plans")?;
     plan(rt, 1, 0, 0, 0)?;
     plan(rt, 0, 127, 0, 128)?;
     plan(rt, 0, 2047, 2048, 2048)?;

@@ -1,4 +1,4 @@
-// A state with one of its fields changed: whatever else a state has stays as it is.
+// A state with one of its fields changed: whatever else a state has stays as it is. A function for each field, since the definitions name each.
 ghost use Rattle.std.specs.Prelude.{◌≡◌};
 ghost use Rattle.state.specs.State.{with_stage, with_id, with_line, with_held};
 

@@ -58,6 +58,7 @@ pub struct State {
 }
 
 // The state in which a device starts.
+#[tactic(auto, unfolding(crate::specs::State::fresh_state))]
 pub fn fresh(profile: Profile) -> State
     ensures { result ≡ fresh_state profile }
 {
@@ -70,6 +71,7 @@ pub fn fresh(profile: Profile) -> State
 }
 
 // The state of a refused start: all zero.
+#[tactic(auto, unfolding(crate::specs::State::zero_state))]
 pub fn zero() -> State
     ensures { result ≡ zero_state }
 {
@@ -91,10 +93,8 @@ pub fn awaits(stage: Stage) -> Awaited
 {
     match stage {
         Stage::Setting(pulse) => Awaited::WakeUp(pulse),
-        Stage::Authentication => Awaited::Packet(Kind::Command),
-        Stage::Command => Awaited::Packet(Kind::Command),
-        Stage::Writing(_) => Awaited::Packet(Kind::Data),
-        Stage::Reading(_) => Awaited::Packet(Kind::Data),
+        Stage::Authentication | Stage::Command => Awaited::Packet(Kind::Command),
+        Stage::Writing(_) | Stage::Reading(_) => Awaited::Packet(Kind::Data),
     }
 }
 

@@ -1,6 +1,5 @@
 -- A state as 33 bytes: stage 1, low pulses 1, next address 4, bytes left 4, ID 16, ABCS 1, BRR 1, MDDR 1, held count 4.
-use Rattle.std.specs.Prelude.{◌&&◌, cond, List, [], ◌∷◌, ◌++◌, ℕ, length, get_or, eqb}
-use Rattle.std.proofs.Math.Option.{Option, none, some}
+use Rattle.std.specs.Prelude.{◌&&◌, cond, List, [], ◌∷◌, ◌++◌, ℕ, length, get_or, eqb, Option, None, Some}
 use Rattle.numbers.specs.Bytes.{bytes_of}
 use Rattle.state.specs.declared.Pulse.{Pulse}
 use Rattle.state.specs.declared.Pulse.TheVariants.{Zero, One, Acknowledged}
@@ -9,8 +8,6 @@ use Rattle.state.specs.declared.Stage.{Stage}
 use Rattle.state.specs.declared.Stage.TheVariants.{Setting, Authentication, Command, Writing, Reading}
 use Rattle.state.specs.declared.State.{State}
 use Rattle.packet_fields.specs.Fields.{four_at, bytes_from}
-use Rattle.state_bytes.specs.declared.StageIn.{StageIn}
-use Rattle.state_bytes.specs.declared.StageIn.TheVariants.{Is, NoStage}
 
 abbrev pub state_length : ℕ
 state_length = 33
@@ -53,28 +50,28 @@ state_bytes st =
     stage_bytes st.stage ++ st.id ++ (st.line.abcs ∷ st.line.brr ∷ st.line.mddr ∷ []) ++ bytes_of 4 st.held
 
 -- the other way round: setting by its pulses
-abbrev pub setting_in : ℕ → StageIn
+abbrev pub setting_in : ℕ → Option Stage
 setting_in pulses =
-    cond (eqb pulses 0) (Is (Setting Zero))
-    (cond (eqb pulses 1) (Is (Setting One))
-    (cond (eqb pulses 2) (Is (Setting Acknowledged))
-    NoStage))
+    cond (eqb pulses 0) (Some (Setting Zero))
+    (cond (eqb pulses 1) (Some (Setting One))
+    (cond (eqb pulses 2) (Some (Setting Acknowledged))
+    None))
 
 -- a stage by its number, where low pulses and range are 0 if it has none
-unfoldable pub stage_of : ℕ → ℕ → Range → StageIn
+unfoldable pub stage_of : ℕ → ℕ → Range → Option Stage
 stage_of n pulses r =
-    cond (eqb n 0) (cond (eqb r.next 0 && eqb r.left 0) (setting_in pulses) NoStage)
+    cond (eqb n 0) (cond (eqb r.next 0 && eqb r.left 0) (setting_in pulses) None)
     (cond (eqb pulses 0)
-    (cond (eqb n 3) (Is (Writing r))
-    (cond (eqb n 4) (Is (Reading r))
+    (cond (eqb n 3) (Some (Writing r))
+    (cond (eqb n 4) (Some (Reading r))
     (cond (eqb r.next 0 && eqb r.left 0)
-    (cond (eqb n 1) (Is Authentication) (cond (eqb n 2) (Is Command) NoStage))
-    NoStage)))
-    NoStage)
+    (cond (eqb n 1) (Some Authentication) (cond (eqb n 2) (Some Command) None))
+    None)))
+    None)
 
-unfoldable pub stage_in : List ℕ → StageIn
+unfoldable pub stage_in : List ℕ → Option Stage
 stage_in bs =
-    cond (eqb (length bs) state_length) (stage_of (get_or bs 0 0) (get_or bs 1 0) (record { next = four_at bs 2; left = four_at bs 6 })) NoStage
+    cond (eqb (length bs) state_length) (stage_of (get_or bs 0 0) (get_or bs 1 0) (record { next = four_at bs 2; left = four_at bs 6 })) None
 
 -- the state of a stage, with the rest out of the bytes
 unfoldable pub state_with : List ℕ → Stage → State
@@ -86,9 +83,9 @@ state_with bs stage =
       held = four_at bs 29;
     }
 
-abbrev pub state_by : List ℕ → StageIn → Option State
-state_by bs NoStage = none
-state_by bs (Is stage) = some (state_with bs stage)
+abbrev pub state_by : List ℕ → Option Stage → Option State
+state_by bs None = None
+state_by bs (Some stage) = Some (state_with bs stage)
 
 -- the state in the bytes, if there is one
 abbrev pub state_in : List ℕ → Option State

@@ -16,7 +16,6 @@ use Rattle.packet.specs.Packet.{progress_of}
 use Rattle.packet.proofs.Laws.{impossible}
 use Rattle.packet_fields.specs.Fields.{info_of}
 use Rattle.verdict.specs.declared.Reason.TheVariants.{LengthRefused}
-use Rattle.verdict.specs.declared.Verdict.TheVariants.{Refused}
 use Rattle.flash.specs.declared.Act.{Act}
 use Rattle.flash.specs.declared.Act.TheVariants.{Nothing, EraseRange, EraseAll, Store}
 use Rattle.flash.specs.Acts.{performed}
@@ -38,6 +37,7 @@ use Rattle.device_steps.proofs.Settles.{either}
 use Rattle.device_steps.proofs.Replies.{IsPacket, packet_least, status_packet, command_packet}
 use Rattle.device.proofs.Turns.{machine_eq}
 use Rattle.stranger.specs.Alike.{is_shut, Shut, SameStored, Alike}
+use Rattle.std.specs.Prelude.{Err}
 use Rattle.stranger.specs.Seen.{SameStep}
 
 -- an image is like itself
@@ -125,7 +125,7 @@ module _ (p : Profile) (m : Machine) where
   unfolding heard
   heard_quiet q Astray e k = ap is_shut e
   heard_quiet q Partial e k = ap is_shut e
-  heard_quiet q Unfit e k = answered (status_packet (early_of m.state.stage).0 (Refused LengthRefused)) k
+  heard_quiet q Unfit e k = answered (status_packet (early_of m.state.stage).0 (Err LengthRefused)) k
   heard_quiet q Complete e k =
       answered (subst (λ (g : Stage). IsPacket (answer_of p m.image m.state g q).reply) (sym e) (command_packet p m.image m.state q)) k
   heard_quiet q Excess e k = ap is_shut e

@@ -5,7 +5,7 @@ use mathlib.Core.Path.{◌≡◌, refl, sym, ap, subst, ◌∙◌}
 use Prim.Native.Nat.{ℕ}
 use native.Mathlib.Omega.{arith}
 use lib.ListN.{length, get_or, replicate}
-use Rattle.numbers.specs.Bytes.{number, number_at, bytes_of}
+use Rattle.numbers.specs.Bytes.{number, value_at, bytes_of}
 use Rattle.numbers.specs.Same.{same}
 use Rattle.verdict.specs.Check.{first_fault}
 use Rattle.profile.specs.Areas.{entries, inside, tally}
@@ -70,7 +70,7 @@ authenticated : (back 0xC0 0xFF 0xFF 0xFF ≡ answers_ok)
     × (back 0xC0 0x00 0x00 0x00 ≡ answers_db)
 unfolding seen_of feed_of step_of step_in heard wake_of awake id_of config_from id_at is_none same answer_command decided grant_of entered total_erase bit126 id_checks bit127
     command_checks known_checks form_checks own_checks com_of com_in fresh_state performed
-    entries inside place_from first_fault progress_of measured_of length_of permitted ending_checks sum_of lack frame number number_at bytes_of
+    entries inside place_from first_fault progress_of measured_of length_of permitted ending_checks sum_of lack frame number value_at bytes_of
 authenticated = (refl, refl, refl, refl)
 
 -- a byte of a reply
@@ -84,7 +84,7 @@ in_or_out e = let z : ◌≡◌ {A = ℕ} 0x00 0xDB = ap (byte_of 2 4) e in absu
 pub goes_on : (user : ℕ) → seen_of tiny (fresh_of tiny (tiny_image user 0xC0 0xFF 0xFF 0xFF)) tiny_line ≡ tiny_seen
 unfolding seen_of feed_of step_of step_in heard wake_of awake id_of config_from id_at is_none same answer_command decided grant_of entered total_erase bit126 id_checks bit127
     command_checks known_checks form_checks own_checks com_of com_in fresh_state performed blanked
-    entries inside place_from first_fault progress_of measured_of length_of permitted ending_checks sum_of lack frame number number_at bytes_of
+    entries inside place_from first_fault progress_of measured_of length_of permitted ending_checks sum_of lack frame number value_at bytes_of
 goes_on user = refl
 
 pub id_tells : ByTheId
@@ -119,7 +119,7 @@ reads = deliver (0x01 ∷ 0x00 ∷ 0x09 ∷ 0x15 ∷ replicate 8 0x00 ++ 0xE2 �
 reads_back : (user : ℕ) → byte_of 0 4 (replies_seen tiny (inside_with user) reads) ≡ user
 unfolding seen_of feed_of step_of step_in heard answer_command decided grant_of read_packet fetched fetched_at
     command_checks known_checks form_checks own_checks com_of com_in four_at fresh_state performed range_checks end_checks purpose_checks change_checks unit_checks window_checks limited
-    entries inside place_from first_fault progress_of measured_of length_of permitted ending_checks sum_of lack frame number number_at bytes_of
+    entries inside place_from first_fault progress_of measured_of length_of permitted ending_checks sum_of lack frame number value_at bytes_of
 reads_back user = refl
 
 pub commands_tell : ByCommands
@@ -159,7 +159,7 @@ stored_or_not : (rewritten 0xFF ≡ fresh_of tiny (tiny_image 0x00 0xC0 0x00 0x0
 unfolding rewritten machine_after hearing step_of step_in heard wake_of awake id_of config_from id_at is_none same answer_command decided grant_of entered total_erase bit126 id_checks bit127
     command_checks known_checks form_checks own_checks com_of com_in four_at fresh_state performed range_checks end_checks purpose_checks change_checks unit_checks window_checks limited
     answer_write write_decided write_checks target_checks units_checks amount_checks searched searched_from stored storing changed along fetched fetched_at
-    entries inside place_from first_fault progress_of measured_of length_of permitted ending_checks ends_well sum_of lack frame number number_at bytes_of
+    entries inside place_from first_fault progress_of measured_of length_of permitted ending_checks ends_well sum_of lack frame number value_at bytes_of
 stored_or_not = (refl, refl)
 
 -- they were alike: the byte is no part of the ID

@@ -9,9 +9,7 @@ use Rattle.profile.specs.declared.Profile.{Profile}
 use Rattle.packet.specs.Frame.{front}
 use Rattle.state.specs.declared.State.{State}
 use Rattle.device_calls.specs.declared.Row.{Row}
-use Rattle.device_calls.specs.declared.Refusal.{Refusal}
-use Rattle.device_calls.specs.declared.Refusal.TheVariants.{Accepted, By}
-use Rattle.device_calls.specs.Calls.{Lent, feed_refusal}
+use Rattle.device_calls.specs.Calls.{Lent, feed_refusal, Refusal}
 use Rattle.device_calls.proofs.Rows.{refused_alike}
 use Rattle.device_steps.specs.Step.{machine_of}
 use Rattle.device_steps.specs.Feed.{Delivery, feed_of}
@@ -20,11 +18,12 @@ use Rattle.device.specs.Post.{Ran, Unfed, FedBy, Feeds}
 use Rattle.stranger.specs.Alike.{is_shut, SameStored}
 use Rattle.stranger.specs.Seen.{SameDelivery}
 use Rattle.stranger.specs.Running.{AlikeLent, SameFeed}
+use Rattle.std.specs.Prelude.{Ok, Err}
 use Rattle.stranger.proofs.Calls.{feed_alike}
 
 -- the answer of an accepted feed
 abbrev ran_as : Delivery → Fed
-ran_as d = record { refusal = Accepted; state = d.machine.state; consumed = d.consumed; count = length d.reply }
+ran_as d = record { refusal = Ok tt; state = d.machine.state; consumed = d.consumed; count = length d.reply }
 
 ran_alike : {p : Profile} {d d' : Delivery} → SameDelivery p d d' → ran_as d ≡ ran_as d'
 ran_alike {d = d} {d' = d'} s =
@@ -127,5 +126,5 @@ module _ (p : Profile) (st : State) (input : List ℕ) (before before' after aft
       (sym (refused_alike p st before before' a.machine.stored.size a.machine.held a.receive a.reply)) f'.fed)
     where
       by_refusal : (x : Refusal) → FedBy x d input st before after r → FedBy x d' input st before' after' r' → SameFeed p after after' r r'
-      by_refusal Accepted x y = rans_alike a h kept kept' x y
-      by_refusal (By row) x y = unfeds_alike a row x y
+      by_refusal (Ok tt) x y = rans_alike a h kept kept' x y
+      by_refusal (Err row) x y = unfeds_alike a row x y

@@ -1,9 +1,8 @@
 -- The paper's numbers for the reasons and for the answer.
-use Rattle.std.specs.Prelude.{ℕ}
+use Rattle.std.specs.Prelude.{ℕ, Ok, Err}
 use Rattle.verdict.specs.declared.Reason.{Reason}
 use Rattle.verdict.specs.declared.Reason.TheVariants.{WrongEtx, WrongSum, UnknownCommand, WrongLength, WrongStage, Reversed, StartNowhere, EndNowhere, TwoAreas, NoUnit, StartUnaligned, EndUnaligned, BelowWindow, AboveWindow, Locked, OtherId, RateZero, RateAboveLimit, RateOff, NoSuchArea, NotWriteData, NoData, TooMuchData, BrokenUnit, DirtyFlash, NotNextRequest, LengthRefused}
-use Rattle.verdict.specs.declared.Verdict.{Verdict}
-use Rattle.verdict.specs.declared.Verdict.TheVariants.{Granted, Refused}
+use Rattle.verdict.specs.Check.{Verdict}
 
 abbrev pub code_of : Reason → ℕ
 code_of WrongEtx = 0xC1
@@ -36,5 +35,5 @@ code_of LengthRefused = 0xC1
 
 -- STS of a status reply
 abbrev pub status_of : Verdict → ℕ
-status_of Granted = 0x00
-status_of (Refused reason) = code_of reason
+status_of (Ok granted) = 0x00
+status_of (Err reason) = code_of reason

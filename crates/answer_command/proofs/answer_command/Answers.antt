@@ -10,22 +10,22 @@ pub grant-requires : goal.grant-requires
 grant-requires c =
     let pre = c.requires in (
       record
-          { profile = pre.0; none_applies = granted_clear _ (sym c.check_command-verdict.ensures ∙ c.in-Granted.is); is = c.com_of-cmd.ensures ∙ ap com_of c.byte_at-request.ensures },
+          { profile = pre.0; none_applies = granted_clear _ (sym c.check_command.ensures ∙ c.in-Ok.is); is = c.from-cmd.ensures ∙ ap com_of c.byte_at-request.ensures },
       pre.1,
     )
 
-pub returns-in-Refused : goal.returns-in-Refused
-returns-in-Refused c =
+pub returns-in-Err : goal.returns-in-Err
+returns-in-Err c =
     let a = c.args in
     let byte_at = c.byte_at-request in
     answers_as (cc
-    (byte_at.ensures, c.with_held.ensures, refused_as a.profile a.image.now a.state a.packet.now _ _ byte_at.ensures (sym c.check_command-verdict.ensures ∙ c.in-Refused.is)))
+    (byte_at.ensures, c.with_held.ensures, refused_as a.profile a.image.now a.state a.packet.now _ _ byte_at.ensures (sym c.check_command.ensures ∙ c.in-Err.is)))
     c.tell.ensures
 
-pub returns-in-Granted : goal.returns-in-Granted
-returns-in-Granted c =
+pub returns-in-Ok : goal.returns-in-Ok
+returns-in-Ok c =
     let a = c.args in
     answers_as (granted_as a.profile a.image.now a.state a.packet.now _
-    (c.com_of-cmd.ensures ∙ ap com_of c.byte_at-request.ensures)
-    (sym c.check_command-verdict.ensures ∙ c.in-Granted.is))
+    (c.from-cmd.ensures ∙ ap com_of c.byte_at-request.ensures)
+    (sym c.check_command.ensures ∙ c.in-Ok.is))
     c.grant.ensures

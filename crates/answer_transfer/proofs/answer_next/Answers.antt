@@ -5,18 +5,18 @@ use Rattle.answer_transfer.specs.Transfers.{next_decided}
 use Rattle.answer_transfer.proofs.Reading.{next_answered}
 use Rattle.answer_transfer.proofs.answer_next.Goals as goal
 
-pub returns-in-Refused : goal.returns-in-Refused
+pub returns-in-Err : goal.returns-in-Err
 unfolding next_decided
-returns-in-Refused c =
+returns-in-Err c =
     let a = c.args in
     next_answered a.profile a.image.now a.state a.range a.packet.now
-    (sym c.in-Refused.is ∙ c.check_next-verdict.ensures)
+    (sym c.in-Err.is ∙ c.check_next.ensures)
     (answers_as (rw c.in_stage.ensures) c.tell.ensures)
 
-pub returns-in-Granted : goal.returns-in-Granted
+pub returns-in-Ok : goal.returns-in-Ok
 unfolding next_decided
-returns-in-Granted c =
+returns-in-Ok c =
     let a = c.args in
     next_answered a.profile a.image.now a.state a.range a.packet.now
-    (sym c.in-Granted.is ∙ c.check_next-verdict.ensures)
+    (sym c.in-Ok.is ∙ c.check_next.ensures)
     c.read_packet.ensures

@@ -7,8 +7,8 @@ use Rattle.flash.proofs.fetch_at.Goals as goal
 pub returns : goal.returns
 returns c =
     let a = c.args in
-    let from = c.lower-from in
-    let most = c.lower in
+    let from = c.min-from in
+    let most = c.min in
     record {
       bytes = fetch_part a.spot a.address a.count a.image.now from.result most.result from.ensures most.ensures;
       block = refl;

@@ -6,4 +6,4 @@ use Rattle.flash.proofs.overlap.Goals as goal
 pub returns : goal.returns
 returns c =
     let a = c.args in
-    meets a.area a.base a.size a.first a.behind c.lower-from.result c.border-to.result (omega arith) c.border-to.ensures
+    meets a.area a.base a.size a.first a.behind _ _ (omega arith) c.border-to.ensures

@@ -1,17 +1,15 @@
 -- `flash::perform` meets its contract. Each act is one case; from 2^32 on nothing is stored, since no area goes so far. Assumes nothing.
-use mathlib.Core.Path.{refl, sym, ◌∙◌}
+use mathlib.Core.Path.{◌≡◌, refl, sym, ap, ◌∙◌}
+use Prim.Native.Nat.{ℕ}
 use lib.ListN.{take}
-use lib.Seq.{length-take-le}
 use native.Mathlib.Omega.{arith}
 use Rattle.profile.proofs.Beyond.{owned_below}
 use Rattle.profile.specs.Areas.{areas_of}
 use Rattle.flash.specs.Acts.{performed}
+use Rattle.flash.specs.Effects.{stored}
 use Rattle.flash.proofs.Beyond.{stored_beyond}
 use Rattle.flash.proofs.Performed.{performed_as, performed_cut}
 use Rattle.flash.proofs.perform.Goals as goal
-
-pub slice_bounds-store-end : goal.slice_bounds-store-end
-slice_bounds-store-end c = sym (length-take-le c.lower-n.result c.args.bytes.now (omega (arith, c.lower-n.ensures)))
 
 pub returns-in-Nothing : goal.returns-in-Nothing
 unfolding performed
@@ -25,11 +23,21 @@ pub returns-in-EraseAll : goal.returns-in-EraseAll
 unfolding performed
 returns-in-EraseAll c = let a = c.args in performed_as (areas_of a.profile) a.bytes.now a.image.now c.in-EraseAll.is c.erase_all.ensures
 
-pub returns-then-address-le4294967295 : goal.returns-then-address-le4294967295
-returns-then-address-le4294967295 c = let a = c.args in performed_as (areas_of a.profile) a.bytes.now a.image.now c.in-Store.is
-    (c.store.ensures ∙ performed_cut (areas_of a.profile) c.in-Store.address c.in-Store.count c.lower-n.result a.bytes.now a.image.now c.lower-n.ensures)
+pub returns-in-Ok : goal.returns-in-Ok
+returns-in-Ok c =
+    let a = c.args in
+    let store = c.in-Store in
+    let areas = areas_of a.profile in
+    let is : c.in-Ok.address ≡ store.address = omega arith in
+    performed_as areas a.bytes.now a.image.now store.is
+    (c.store.ensures
+    ∙ ap (λ (x : ℕ). stored areas x (take c.min.result a.bytes.now) a.image.now) is
+    ∙ performed_cut areas store.address store.count c.min.result a.bytes.now a.image.now c.min.ensures)
 
-pub returns-else-address-le4294967295 : goal.returns-else-address-le4294967295
+pub returns-in_default : goal.returns-in_default
 unfolding performed
-returns-else-address-le4294967295 c = let a = c.args in performed_as (areas_of a.profile) a.bytes.now a.image.now c.in-Store.is
-    (sym (stored_beyond a.profile c.in-Store.address (take c.in-Store.count a.bytes.now) a.image.now (owned_below a.profile _ c.well_formed.1.0) c.if-address-le4294967295.false))
+returns-in_default c =
+    let a = c.args in
+    let store = c.in-Store in
+    performed_as (areas_of a.profile) a.bytes.now a.image.now store.is
+    (sym (stored_beyond a.profile store.address (take store.count a.bytes.now) a.image.now (owned_below a.profile _ c.well_formed.1.0) (omega arith)))

@@ -1,18 +1,16 @@
-use mathlib.Core.Path.{◌≡◌}
-use Prim.Native.Nat.{◌-◌, ◌+◌, ◌*◌, ◌≤◌, min, max}
-use lib.ListN.{length, drop}
-use Rattle.flash_blank.specs.declared.Search.TheVariants.{Clean}
-use Rattle.flash_blank.specs.Blank.{searched, searched_from}
+use Rattle.std.proofs.Common.{◌≡◌, ◌+◌, ◌*◌, ◌<◌, length, min, max, None}
+use Rattle.flash_blank.proofs.Units.{Left}
 use Rattle.flash_blank.proofs.first_dirty.Given as goal
 
-abbrev pub invariant-loop-k : goal.invariant-loop-k
-invariant-loop-k l = (l.found ≡ Clean) × (l.at ≤ l.k) × (l.k ≤ l.end) × (searched l.unit l.target ≡ searched_from l.step l.k (drop l.k l.target))
-
-abbrev pub decreases-loop-k : goal.decreases-loop-k
-decreases-loop-k l = l.end - l.k
+abbrev pub invariant-loop-byte : goal.invariant-loop-byte
+invariant-loop-byte l = record {
+  none : l.found ≡ None;
+  left : Left l.unit l.target (l.from + l.byte-index);
+}
 
 abbrev pub invariant-units : goal.invariant-units
-invariant-units l = (l.found ≡ Clean) × (l.step ≡ max l.unit 1) × (l.at ≡ min (l.number * l.step) (length l.target)) × (l.front ≤ l.at + l.step) × (searched l.unit l.target ≡ searched_from l.step (max l.at l.front) (drop (max l.at l.front) l.target))
-
-abbrev pub decreases-units : goal.decreases-units
-decreases-units l = length l.target - l.at
+invariant-units l = record {
+  none : l.found ≡ None;
+  reached : l.front < (l.number + 1) * l.step;
+  left : Left l.unit l.target (max (min (l.number * l.step) (length l.target)) l.front);
+}

@@ -1,6 +1,6 @@
 -- `flash_blank::passed` meets its contract. Assumes nothing.
+use Rattle.std.proofs.Common.{arith}
 use Rattle.flash_blank.proofs.Units.{front_start}
-use native.Mathlib.Omega.{arith}
 use Rattle.flash_blank.proofs.passed.Goals as goal
 
 pub blank_front-far-requires : goal.blank_front-far-requires

@@ -7,8 +7,8 @@ use Rattle.host_bytes.proofs.first_in.Goals as goal
 
 pub returns : goal.returns
 returns c =
-    let lower = c.lower-from in
-    let lower2 = c.lower-end in
+    let lower = c.min-from in
+    let lower2 = c.min-end in
     let l = c.args.bytes.now in
     laid l (replicate 17 0) c.copy.new.to 19 17 lower.result lower2.result lower.ensures lower2.ensures
     c.copy.ensures ∙ sym (from_there 17 19 l)

@@ -9,9 +9,9 @@ pub returns : goal.returns
 returns c =
     let a = c.args in
     laid a.image.now no_id c.copy.new.to a.base 16
-    c.lower-from.result
-    c.lower-end.result
-    c.lower-from.ensures
-    c.lower-end.ensures
+    c.min-from.result
+    c.min-end.result
+    c.min-from.ensures
+    c.min-end.ensures
     c.copy.ensures
     ∙ padded (drop a.base a.image.now) 16 0xFF

@@ -10,23 +10,23 @@ pub feed_state-requires : goal.feed_state-requires
 feed_state-requires c =
     found_length
     c.args.state.now
-    _ (sym c.stage_in-found.ensures
-    ∙ c.in-Is.is)
+    _ (sym c.stage_in.ensures
+    ∙ c.in-Some.is)
 
-pub returns-in-NoStage : goal.returns-in-NoStage
-returns-in-NoStage c = let a = c.args in
+pub returns-in-None : goal.returns-in-None
+returns-in-None c = let a = c.args in
     fed_no_state a.profile.now a.input.now (bytes a.image.now a.state.now a.receive.now a.reply.now)
-    (sym c.stage_in-found.ensures ∙ c.in-NoStage.is) c.begin-begun.result c.begin-begun.ensures c.number.result c.number.ensures
+    (sym c.stage_in.ensures ∙ c.in-None.is) c.begin.result c.begin.ensures c.number.result c.number.ensures
 
-pub returns-in-Is : goal.returns-in-Is
-returns-in-Is c =
+pub returns-in-Some : goal.returns-in-Some
+returns-in-Some c =
     let profile-in = c.profile_in-p in
     let state-in = c.state_in-st in
     let a = c.args in
     let f = c.feed_state in
     fed_both a.profile.now a.input.now (bytes a.image.now a.state.now a.receive.now a.reply.now) profile-in.result
     profile-in.ensures _ (sym
-    c.stage_in-found.ensures
-    ∙ c.in-Is.is)
+    c.stage_in.ensures
+    ∙ c.in-Some.is)
     state-in.result state-in.ensures (bytes f.new.image f.new.state f.new.receive f.new.reply)
     (numbers f.result f.new.consumed f.new.sent) f.ensures

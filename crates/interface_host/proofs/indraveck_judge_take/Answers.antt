@@ -5,13 +5,10 @@ use Rattle.interface_host.proofs.indraveck_judge_take.Goals as goal
 pub returns-in_default : goal.returns-in_default
 returns-in_default c =
     let a = c.args in
-    unjudged_takes a.bytes.now a.judge.now c.head_in-head.ensures c.in_default.is
+    unjudged_takes a.bytes.now a.judge.now c.head_in.ensures c.in_default.is
 
 pub returns : goal.returns
 returns c =
-    let told = c in
-    let a = told.args in
-    judge_takes a.bytes.now a.judge.now told.head_in-head.ensures
-    c.in-Is.is
-    c.judge_in-before.ensures
-    c.take-got.ensures c.put_judge.ensures c.judgement_number.ensures.0
+    let a = c.args in
+    judge_takes a.bytes.now a.judge.now c.head_in.ensures c.in-Some.is c.judge_in-before.ensures
+    c.take-got.ensures c.put_judge.ensures c.from.ensures.0

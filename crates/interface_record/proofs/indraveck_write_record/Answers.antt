@@ -7,18 +7,18 @@ use Rattle.interface_record.proofs.indraveck_write_record.Goals as goal
 pub returns-then-direction-gt255 : goal.returns-then-direction-gt255
 returns-then-direction-gt255 c =
     let a = c.args in
-    number_refused a.direction a.at a.bytes.now a.buffer.now c.if-direction-gt255.true _ _ c.fault_number.ensures refl
+    number_refused a.direction a.at a.bytes.now a.buffer.now c.if-direction-gt255.true _ _ (c.from-then-direction-gt255.ensures ∙ c.from.ensures) refl
 
-pub returns-in-Behind : goal.returns-in-Behind
-returns-in-Behind c =
+pub returns-in-Ok : goal.returns-in-Ok
+returns-in-Ok c =
     let a = c.args in
-    let write_record = c.write_record-written in
-    written_bytes a.direction a.at a.bytes.now a.buffer.now write_record.new.buffer _ write_record.ensures _ _ (ap written_number (sym c.in-Behind.is))
-    (ap (place_by a.at) (sym c.in-Behind.is))
+    let write_record = c.write_record in
+    written_bytes a.direction a.at a.bytes.now a.buffer.now write_record.new.buffer _ write_record.ensures _ _ (ap written_number (sym c.in-Ok.is))
+    (ap (place_by a.at) (sym c.in-Ok.is))
 
-pub returns-in-Refused : goal.returns-in-Refused
-returns-in-Refused c =
+pub returns-in-Err : goal.returns-in-Err
+returns-in-Err c =
     let a = c.args in
-    let write_record = c.write_record-written in
-    written_bytes a.direction a.at a.bytes.now a.buffer.now write_record.new.buffer _ write_record.ensures _ _ (c.fault_number-in-Refused.ensures ∙ ap written_number (sym c.in-Refused.is))
-    (ap (place_by a.at) (sym c.in-Refused.is))
+    let write_record = c.write_record in
+    written_bytes a.direction a.at a.bytes.now a.buffer.now write_record.new.buffer _ write_record.ensures _ _ (c.from-in-Err-2.ensures ∙ c.from-in-Err.ensures ∙ ap written_number (sym c.in-Err.is))
+    (ap (place_by a.at) (sym c.in-Err.is))

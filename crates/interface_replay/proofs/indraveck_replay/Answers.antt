@@ -22,4 +22,4 @@ returns c =
     let a = c.args in
     replayed a.profile.now a.recording.now a.image.now profile-in.result profile-in.ensures start.result start.ensures.is
     (sym c.is_accepted.ensures ∙ not-false _ (ap not c.if-not-is_accepted.false)) play.new.image
-    play.result play.ensures c.ended_number.result c.ended_number.ensures
+    play.result play.ensures c.from-2.result (c.from-2.ensures ∙ c.from.ensures)

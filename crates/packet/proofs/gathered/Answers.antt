@@ -8,22 +8,22 @@ pub returns-then-s-eq0 : goal.returns-then-s-eq0
 unfolding progress_of
 returns-then-s-eq0 c = simp (eq-eqb _ _ c.if-s-eq0.true)
 
-pub returns-then-s-start_byte : goal.returns-then-s-start_byte
+pub returns-then-s-from : goal.returns-then-s-from
 unfolding progress_of
-returns-then-s-start_byte c = simp (ne_eqb _ _ c.if-s-eq0.false, ← c.start_byte.ensures, ne_eqb _ _ c.if-s-start_byte.true)
+returns-then-s-from c = simp (ne_eqb _ _ c.if-s-eq0.false, ← c.from.ensures, ne_eqb _ _ c.if-s-from.true)
 
-pub returns-in-CutShort : goal.returns-in-CutShort
+pub returns-in-None : goal.returns-in-None
 unfolding progress_of
-returns-in-CutShort c = simp (ne_eqb _ _ c.if-s-eq0.false, ← c.start_byte.ensures, eq-eqb _ _ c.if-s-start_byte.false, length_cut _ (sym c.read_two-length.ensures ∙ c.in-CutShort.is))
+returns-in-None c = simp (ne_eqb _ _ c.if-s-eq0.false, ← c.from.ensures, eq-eqb _ _ c.if-s-from.false, length_cut _ (sym c.read.ensures ∙ c.in-None.is))
 
-pub returns-in-Is : goal.returns-in-Is
+pub returns-in-Some : goal.returns-in-Some
 unfolding progress_of
-returns-in-Is c =
-    let e = sym c.read_two-length.ensures ∙ c.in-Is.is in
+returns-in-Some c =
+    let e = sym c.read.ensures ∙ c.in-Some.is in
     simp (
       ne_eqb _ _ c.if-s-eq0.false,
-      ← c.start_byte.ensures,
-      eq-eqb _ _ c.if-s-start_byte.false,
+      ← c.from.ensures,
+      eq-eqb _ _ c.if-s-from.false,
       length_there _ _ e,
       ← length_read _ _ e,
     ) c.measured.ensures

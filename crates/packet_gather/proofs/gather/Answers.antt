@@ -14,16 +14,16 @@ pub place-requires : goal.place-requires
 place-requires c =
     let pre = c.requires in
     let a = c.args in
-    let e = c.lower-taken.ensures ∙ ap (λ (k : ℕ). min k (length a.input.now)) c.gain.ensures in (
-      omega (arith, taken_room a.kind a.held a.receive.now a.input.now (pre) c.lower-taken.result e),
+    let e = c.min-taken.ensures ∙ ap (λ (k : ℕ). min k (length a.input.now)) c.gain.ensures in (
+      omega (arith, taken_room a.kind a.held a.receive.now a.input.now (pre) c.min-taken.result e),
       taken_there a.kind a.held
-          a.receive.now a.input.now (pre) c.lower-taken.result e,
+          a.receive.now a.input.now (pre) c.min-taken.result e,
     )
 
 pub returns : goal.returns
 returns c =
     let input = c.args.input.now in
     record {
-      taken = c.lower-taken.ensures ∙ ap (λ (k : ℕ). min k (length input)) c.gain.ensures;
+      taken = c.min-taken.ensures ∙ ap (λ (k : ℕ). min k (length input)) c.gain.ensures;
       receive = c.place.ensures;
     }

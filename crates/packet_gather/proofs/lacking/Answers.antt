@@ -5,10 +5,10 @@ use native.Mathlib.Omega.{arith}
 use Rattle.packet_gather.proofs.lacking.Goals as goal
 
 pub returns-then-packet-last : goal.returns-then-packet-last
-returns-then-packet-last c = lack_read c.args.packet.now _ (sym c.read_two-length.ensures ∙ c.in-Is.is)
+returns-then-packet-last c = lack_read c.args.packet.now _ (sym c.read.ensures ∙ c.in-Some.is)
 
-pub returns-in-CutShort : goal.returns-in-CutShort
-returns-in-CutShort c = lack_cut c.args.packet.now (sym c.read_two-length.ensures ∙ c.in-CutShort.is)
+pub returns-in-None : goal.returns-in-None
+returns-in-None c = lack_cut c.args.packet.now (sym c.read.ensures ∙ c.in-None.is)
 
 pub returns-else-packet-last : goal.returns-else-packet-last
-returns-else-packet-last c = omega (arith, lack_read c.args.packet.now _ (sym c.read_two-length.ensures ∙ c.in-Is.is))
+returns-else-packet-last c = omega (arith, lack_read c.args.packet.now _ (sym c.read.ensures ∙ c.in-Some.is))

@@ -4,9 +4,9 @@ use Rattle.packet_messages.proofs.area_message.Goals as goal
 
 pub returns : goal.returns
 returns c =
-    let write-four = c.write_four in
-    let write-four2 = c.write_four-2 in
-    let write-four3 = c.write_four-3 in
+    let write-four = c.write in
+    let write-four2 = c.write-2 in
+    let write-four3 = c.write-3 in
     area_written c.args.area write-four.new.buffer
-    write-four2.new.buffer write-four3.new.buffer c.write_four-4.new.buffer write-four.ensures.leaves write-four2.ensures.leaves
-    write-four3.ensures.leaves c.write_four-4.ensures.leaves
+    write-four2.new.buffer write-four3.new.buffer c.write-4.new.buffer write-four.ensures.leaves write-four2.ensures.leaves
+    write-four3.ensures.leaves c.write-4.ensures.leaves

@@ -4,8 +4,5 @@ use Rattle.packet_messages.proofs.signature_message.Goals as goal
 
 pub returns : goal.returns
 returns c =
-    let write-four = c.write_four in
-    let write-four2 = c.write_four-2 in
-    signature_written c.args.profile write-four.new.buffer
-    write-four2.new.buffer c.write_two.new.buffer write-four.ensures.leaves write-four2.ensures.leaves
-    c.write_two.ensures.leaves
+    signature_written c.args.profile c.write.new.buffer c.write-2.new.buffer c.write-3.new.buffer
+    c.write.ensures.leaves c.write-2.ensures.leaves c.write-3.ensures.leaves

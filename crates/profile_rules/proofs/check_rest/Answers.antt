@@ -1,31 +1,28 @@
 -- `profile_rules::check_rest` meets its contract. The table decides where it breaks a rule, and else the checks behind it. Assumes nothing.
-use mathlib.Core.Path.{sym, ap, ◌∙◌}
-use Rattle.profile.specs.Areas.{areas_of}
+use Rattle.std.proofs.lemmas.Result.{err_from_is_err_and}
+use Rattle.std.proofs.Common.{sym, ap, ◌∙◌}
+use Rattle.verdict.proofs.FirstFault.{granted_clear, refused_fault}
 use Rattle.profile_rules.specs.declared.Tallies.{Tallies}
 use Rattle.profile_rules.proofs.Judging.{breaks_table, tail_decides, tallies_are, judged_broken, judged_fine}
-use Rattle.profile_rules.proofs.Laws.{acceptable_none, breaks_some}
 use Rattle.profile_rules.proofs.check_rest.Goals as goal
 
-pub check_tail-tail-requires : goal.check_tail-tail-requires
-check_tail-tail-requires c =
-    let w = c.survey-table in
-    tallies_are (areas_of c.args.profile) w.result w.ensures c.in-Acceptable.is
+pub returns-in_err-counted : goal.returns-in_err-counted
+returns-in_err-counted c =
+    let p = err_from_is_err_and c.from_residual.result c.from_residual.ensures.1 in
+    rw (p.1, p.2) (judged_broken _ _ _ (breaks_table c.args.profile _ c.survey.ensures _ c.in_err-counted.was))
 
-pub returns-in-Breaks : goal.returns-in-Breaks
-returns-in-Breaks c =
-    let w = c.survey-table in
-    judged_broken _ _ _ (breaks_table c.args.profile w.result w.ensures _ c.in-Breaks.is)
+pub check_tail-requires : goal.check_tail-requires
+check_tail-requires c = tallies_are c.args.profile _ c.survey.ensures _ c.in_ok-counted.was
 
-pub returns-in-Breaks-tail : goal.returns-in-Breaks-tail
-returns-in-Breaks-tail c =
-    let w = c.survey-table in
-    let late = breaks_some _ _ (sym c.check_tail-tail.ensures ∙ c.in-Breaks-tail.is) in
-    judged_broken _ _ _ (tail_decides c.args.profile w.result w.ensures c.in-Acceptable.is ∙ late)
+pub returns-in_err-check_tail : goal.returns-in_err-check_tail
+returns-in_err-check_tail c =
+    let p = err_from_is_err_and c.from_residual-in_err-check_tail.result c.from_residual-in_err-check_tail.ensures.1 in
+    let late = refused_fault _ _ (sym c.check_tail.ensures ∙ c.in_err-check_tail.was) in
+    rw (p.1, p.2) (judged_broken _ _ _ (tail_decides c.args.profile _ c.survey.ensures _ c.in_ok-counted.was ∙ late))
 
-pub returns-in-Acceptable-tail : goal.returns-in-Acceptable-tail
-returns-in-Acceptable-tail c =
+pub returns : goal.returns
+returns c =
     let p = c.args.profile in
-    let w = c.survey-table in
-    let fine = c.in-Acceptable.is in
-    let clear = acceptable_none _ (sym c.check_tail-tail.ensures ∙ c.in-Acceptable-tail.is) in
-    judged_fine _ _ _ (tail_decides p w.result w.ensures fine ∙ clear) (ap (λ (t : Tallies). t.total) (tallies_are (areas_of p) w.result w.ensures fine))
+    let clear = granted_clear _ (sym c.check_tail.ensures ∙ c.in_ok-check_tail.was) in
+    judged_fine _ _ _ (tail_decides p _ c.survey.ensures _ c.in_ok-counted.was ∙ clear)
+    (ap (λ (t : Tallies). t.total) (tallies_are p _ c.survey.ensures _ c.in_ok-counted.was))

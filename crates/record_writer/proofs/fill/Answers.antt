@@ -14,22 +14,22 @@ bounds-part-2 c = simp length-set (omega (arith, c.requires.1))
 pub slice_bounds-copy-count : goal.slice_bounds-copy-count
 slice_bounds-copy-count c =
     let a = c.args in
-    omega (arith, start_length a.part.now _ a.bytes.now a.bytes.now a.direction c.requires.1 c.write_two.ensures.leaves)
+    omega (arith, start_length a.part.now _ a.bytes.now a.bytes.now a.direction c.requires.1 c.write.ensures.leaves)
 
 pub slice_bounds-copy-start : goal.slice_bounds-copy-start
 slice_bounds-copy-start c =
     let a = c.args in
-    omega (arith, start_length a.part.now _ a.bytes.now a.bytes.now a.direction c.requires.1 c.write_two.ensures.leaves)
+    omega (arith, start_length a.part.now _ a.bytes.now a.bytes.now a.direction c.requires.1 c.write.ensures.leaves)
 
 pub copy-requires : goal.copy-requires
 copy-requires c =
-    let w = c.write_two.new.buffer in
-    omega (arith, start_length c.args.part.now w c.args.bytes.now c.args.bytes.now c.args.direction c.requires.1 c.write_two.ensures.leaves, part_count 5 (length w) w (omega arith))
+    let w = c.write.new.buffer in
+    omega (arith, start_length c.args.part.now w c.args.bytes.now c.args.bytes.now c.args.direction c.requires.1 c.write.ensures.leaves, part_count 5 (length w) w (omega arith))
 
 pub shape_of-part : goal.shape_of-part
 shape_of-part c =
     let a = c.args in
-    let write_two = c.write_two in
+    let write_two = c.write in
     let copy = c.copy in
     let pre = c.requires in
     as_long a.part.now write_two.new.buffer copy.new.to a.bytes.now a.direction pre.1 write_two.ensures.leaves copy.ensures
@@ -37,7 +37,7 @@ shape_of-part c =
 pub returns : goal.returns
 returns c =
     let a = c.args in
-    let write_two = c.write_two in
+    let write_two = c.write in
     let copy = c.copy in
     let pre = c.requires in
     filled a.part.now write_two.new.buffer copy.new.to a.bytes.now a.direction pre.1 write_two.ensures.leaves copy.ensures

@@ -45,4 +45,4 @@ returns c =
     let if1 = c.if-not-is_allowed in
     let fill = c.fill in
     record_written a.direction a.at a.bytes.now a.buffer.now (sym is-allowed.ensures ∙ not-false _ (ap not if1.false)) (sym c.has_field.ensures ∙ not-false _ (ap not c.if-not-has_field.false))
-    _ fill.new.part (fill.ensures ∙ ap (λ (n : ℕ). entry n a.bytes.now) c.direction_number-byte.ensures) refl
+    _ fill.new.part (fill.ensures ∙ ap (λ (n : ℕ). entry n a.bytes.now) c.from.ensures) refl

@@ -44,18 +44,18 @@ bounds-recording-at c =
     let a = c.args in
     omega (arith, room a.at 3 (length a.recording.now) _ c.has_field-2.ensures (ap not c.if-not-has_field-2.false))
 
-pub returns-in-Unknown : goal.returns-in-Unknown
-returns-in-Unknown c =
+pub returns-in-Err : goal.returns-in-Err
+returns-in-Err c =
     let a = c.args in
     let if1 = c.if-at-n in
     let has-field = c.has_field in
     let if2 = c.if-not-has_field in
     let is-marked = c.is_marked in
     direction_bad a.recording.now a.at if1.false (sym has-field.ensures ∙ not-false _ (ap not if2.false)) (sym is-marked.ensures ∙ not-false _ (ap not c.if-not-is_marked.false))
-    (sym c.has_field-2.ensures ∙ not-false _ (ap not c.if-not-has_field-2.false)) (sym c.direction_of-direction.ensures ∙ c.in-Unknown.is)
+    (sym c.has_field-2.ensures ∙ not-false _ (ap not c.if-not-has_field-2.false)) (grind arith)
 
-pub returns-in-Known : goal.returns-in-Known
-returns-in-Known c =
+pub returns-in-Ok : goal.returns-in-Ok
+returns-in-Ok c =
     let a = c.args in
     let if1 = c.if-at-n in
     let has-field = c.has_field in
@@ -64,4 +64,4 @@ returns-in-Known c =
     let if3 = c.if-not-is_marked in
     let has-field2 = c.has_field-2 in
     c.directed_at.ensures ∙ direction_known a.recording.now a.at if1.false (sym has-field.ensures ∙ not-false _ (ap not if2.false)) (sym is-marked.ensures ∙ not-false _ (ap not if3.false))
-    (sym has-field2.ensures ∙ not-false _ (ap not c.if-not-has_field-2.false)) _ (sym c.direction_of-direction.ensures ∙ c.in-Known.is)
+    (sym has-field2.ensures ∙ not-false _ (ap not c.if-not-has_field-2.false)) c.in-Ok.known (grind arith)

@@ -1,10 +1,6 @@
--- The reply lies within the buffer.
-use Rattle.std.proofs.Common.{sym}
-use Rattle.show_replies.proofs.Laws.{within, part_length}
+-- `show_replies::print_data`: the reply lies in its buffer. Assumes nothing.
+use Rattle.show_common.proofs.Replies.{within}
 use Rattle.show_replies.proofs.print_data.Goals as goal
 
 pub slice_bounds-buffer-end : goal.slice_bounds-buffer-end
-slice_bounds-buffer-end g c = within _ _ _ _ c.put_data-n.auto.buffer c.put_data-n.ensures
-
-pub slice_bounds-print_packet-end : goal.slice_bounds-print_packet-end
-slice_bounds-print_packet-end g c = sym (part_length _ _ _ _ c.put_data-n.auto.buffer c.put_data-n.ensures)
+slice_bounds-buffer-end g c = within _ _ _ _ _ c.put_data.ensures c.unwrap_or-n.ensures c.put_data.auto.buffer

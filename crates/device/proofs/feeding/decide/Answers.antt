@@ -9,24 +9,6 @@ answer_write-requires c = (range_at _ _ c.in-Writing.is c.requires.1, c.requires
 pub answer_next-requires : goal.answer_next-requires
 answer_next-requires c = (range_at _ _ c.in-Reading.is c.requires.1, c.requires.2)
 
-pub returns-in-Setting : goal.returns-in-Setting
-returns-in-Setting c =
-    let a = c.args in
-    answers_as (answer_at a.profile a.image.now a.state a.packet.now c.in-Setting.is)
-    c.answer_command.ensures
-
-pub returns-in-Authentication : goal.returns-in-Authentication
-returns-in-Authentication c =
-    let a = c.args in
-    answers_as (answer_at a.profile a.image.now a.state a.packet.now c.in-Authentication.is)
-    c.answer_command-in-Authentication.ensures
-
-pub returns-in-Command : goal.returns-in-Command
-returns-in-Command c =
-    let a = c.args in
-    answers_as (answer_at a.profile a.image.now a.state a.packet.now c.in-Command.is)
-    c.answer_command-in-Command.ensures
-
 pub returns-in-Writing : goal.returns-in-Writing
 returns-in-Writing c =
     let a = c.args in

@@ -4,6 +4,7 @@ use Rattle.device_calls.specs.Calls.{buffers}
 use lib.ListN.{length, length-set}
 use Prim.Native.Nat.{◌<◌}
 use native.Mathlib.Omega.{arith}
+use Rattle.std.proofs.Common.{⊎_elim}
 use Rattle.device.proofs.feeding.listen.Goals as goal
 
 pub bounds-receive-at : goal.bounds-receive-at
@@ -28,22 +29,24 @@ pub returns-in-Astray : goal.returns-in-Astray
 returns-in-Astray c =
     let a = c.args in
     let pre = c.requires in
-    stood_astray a.profile a.state (buffers a.image.now a.receive.now a.reply.now) a.byte pre.0 a.kind _ pre.1
-    c.gathered-progress.ensures _ c.in-Astray.is c.holding.ensures
+    let l = buffers a.image.now a.receive.now a.reply.now in
+    ⊎_elim (λ e. stood_astray a.profile a.state l a.byte pre.0 a.kind _ pre.1 c.gathered.ensures _ e c.holding.ensures)
+    (λ e. stood_excess a.profile a.state l a.byte pre.0 a.kind _ pre.1 c.gathered.ensures _ e c.holding.ensures)
+    c.in-Astray.is
 
 pub returns-in-Partial : goal.returns-in-Partial
 returns-in-Partial c =
     let a = c.args in
     let pre = c.requires in
     stood_partial a.profile a.state (buffers a.image.now a.receive.now a.reply.now) a.byte pre.0 a.kind _ pre.1
-    c.gathered-progress.ensures _ c.in-Partial.is c.holding-in-Partial.ensures
+    c.gathered.ensures _ c.in-Partial.is c.holding-in-Partial.ensures
 
 pub returns-in-Unfit : goal.returns-in-Unfit
 returns-in-Unfit c =
     let a = c.args in
     let pre = c.requires in
     stood_unfit a.profile a.state (buffers a.image.now a.receive.now a.reply.now) a.byte pre.0 a.kind _ pre.1
-    c.gathered-progress.ensures _ _ c.in-Unfit.is
+    c.gathered.ensures _ _ c.in-Unfit.is
     c.refuse_early.ensures
 
 pub returns-in-Complete : goal.returns-in-Complete
@@ -51,15 +54,8 @@ returns-in-Complete c =
     let a = c.args in
     let pre = c.requires in
     stood_complete a.profile a.state (buffers a.image.now a.receive.now a.reply.now) a.byte pre.0 a.kind _ pre.1
-    c.gathered-progress.ensures _ _ c.in-Complete.is
+    c.gathered.ensures _ _ c.in-Complete.is
     c.decide.ensures
-
-pub returns-in-Excess : goal.returns-in-Excess
-returns-in-Excess c =
-    let a = c.args in
-    let pre = c.requires in
-    stood_excess a.profile a.state (buffers a.image.now a.receive.now a.reply.now) a.byte pre.0 a.kind _ pre.1
-    c.gathered-progress.ensures _ c.in-Excess.is c.holding-in-Excess.ensures
 
 pub slice_bounds-decide-end : goal.slice_bounds-decide-end
 slice_bounds-decide-end c =

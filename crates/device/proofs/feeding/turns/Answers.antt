@@ -39,8 +39,8 @@ add-taken-requires c =
     (stood_done loop.image (loop.now_state.held + 1) step.ensures c.info.ensures.bytes perform.ensures)
     c.if-count-ne0.false perform.auto.image step.auto.receive step.auto.reply)
 
-pub overflow_add-held : goal.overflow_add-held
-overflow_add-held c =
+pub overflow_add-now_state : goal.overflow_add-now_state
+overflow_add-now_state c =
     let loop = c.loop-i in
     let step = c.step-s in
     let perform = c.perform in

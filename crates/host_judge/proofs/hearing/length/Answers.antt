@@ -1,7 +1,7 @@
 -- `host_judge::hearing::length` meets its contract. Two bytes make a number below 65,536. Assumes nothing.
-use Rattle.std.proofs.Common.{arith}
-use Rattle.host_judge.proofs.OneByte.{number_of_two}
+use Rattle.std.proofs.Common.{refl, ◌∙◌, arith}
+use Rattle.numbers.proofs.Laws.{number_two}
 use Rattle.host_judge.proofs.hearing.length.Goals as goal
 
 pub returns : goal.returns
-returns c = (number_of_two c.args.reply.high c.args.reply.low, omega arith)
+returns c = (c.from_be_bytes.ensures ∙ number_two _ refl, omega arith)

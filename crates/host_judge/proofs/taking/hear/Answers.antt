@@ -36,7 +36,7 @@ returns-then-bytes-taken c =
     let low =
     part_low a.judge u a.bytes.now first.result second.result high second.ensures
     (grind (arith, common_steps)) in
-    let run = c.hear_run-part in
+    let run = c.hear_run-taken in
     let rest =
     part_rest a.judge u a.bytes.now second.result c.hear_next.result c.hear_next-status.result run.result low
     c.hear_next.ensures c.hear_next-status.ensures run.ensures in
@@ -52,7 +52,7 @@ returns c =
     let low =
     part_low a.judge u a.bytes.now first.result second.result high second.ensures
     (grind (arith, common_steps)) in
-    let run = c.hear_run-part in
+    let run = c.hear_run-taken in
     let rest =
     part_rest a.judge u a.bytes.now second.result c.hear_next.result c.hear_next-status.result run.result low
     c.hear_next.ensures c.hear_next-status.ensures run.ensures in

@@ -6,12 +6,12 @@ use Rattle.packet.proofs.framing.put_head.Goals as goal
 pub shape_of-buffer : goal.shape_of-buffer
 shape_of-buffer c =
     let a = c.args in
-    let w = c.write_two in
-    length-set w.new.buffer 3 a.code ∙ w.auto.buffer ∙ length-set a.buffer.now 0 c.start_byte.result
+    let w = c.write in
+    length-set w.new.buffer 3 a.code ∙ w.auto.buffer ∙ length-set a.buffer.now 0 c.from.result
 
 pub returns : goal.returns
 returns c =
     let a = c.args in
-    let w = c.write_two in
-    let s = c.start_byte in
+    let w = c.write in
+    let s = c.from in
     head_put a.kind a.buffer.now w.new.buffer s.result a.code (a.n + 1) s.ensures c.requires.1 w.ensures.leaves

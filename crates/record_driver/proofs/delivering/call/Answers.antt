@@ -14,4 +14,4 @@ returns-in-Device c = rw c.in-Device.is (stands_at c.requires.0 refl refl)
 
 pub returns-in-Reset : goal.returns-in-Reset
 unfolding machine_after buffer_after calls_of
-returns-in-Reset c = rw c.in-Reset.is (reset_stands c.requires.0 c.reset-begun.ensures.is)
+returns-in-Reset c = rw c.in-Reset.is (reset_stands c.requires.0 c.reset.ensures.is)
