@@ -2,17 +2,121 @@
 // down what the host and the device sent. The recording is then replayed on a blank image, and the two images are compared.
 #![tactic(auto)]
 
-mod recorder;
 mod scripts;
 
-use recording::{Ended, Extent};
+use recording::{Direction, Ended, Extent, Found};
 use scripts::{AFTER, BEFORE, PACKET, SESSIONS, Session};
 use show_common::bench_profile;
-use std::alloc::{AllocError, Global};
+use state::State;
 use std::io;
 
 // A blank image of the bench profile.
 const BLANK: [u8; 65792] = [0xFF; 65792];
+
+// Bytes behind others in a buffer; none if there is no room.
+fn append(buffer: &mut [u8], at: usize, bytes: &[u8]) -> usize {
+    let n = bytes.len();
+    if buffer.len() < at || buffer.len() - at < n {
+        return at;
+    }
+    let end = at + n;
+    buffer[at..end].copy_from_slice(bytes);
+    end
+}
+
+// A recording that grows, in fixed memory and not in a Vec: with the heap three functions more would be assumed (docs/ASSUMED.md).
+#[derive(Drop)]
+struct Tape {
+    bytes: [u8; 8192],
+    length: usize,
+}
+
+impl Tape {
+    fn new() -> Tape {
+        Tape {
+            bytes: [0; 8192],
+            length: 0,
+        }
+    }
+
+    fn add(&mut self, bytes: &[u8]) {
+        self.length = append(&mut self.bytes, self.length, bytes);
+    }
+
+    // A record: mark, direction, length, bytes. By hand and not by `record_writer`: a fault of its would hide one of the reader's.
+    fn note(&mut self, direction: u8, bytes: &[u8]) {
+        let [.., high, low] = bytes.len().to_be_bytes();
+        self.add(&[0x52, 0x4C, direction, high, low]);
+        self.add(bytes);
+    }
+
+    fn written(&self) -> &[u8] {
+        self.bytes.get(..self.length).unwrap_or(&[])
+    }
+}
+
+// A device on the bench profile, and the line that it is on, taken down.
+#[derive(Drop)]
+struct Recorder {
+    image: [u8; 65792],
+    receive: [u8; 1030],
+    reply: [u8; 1030],
+    state: State,
+    tape: Tape,
+}
+
+impl Recorder {
+    // A blank device that was switched on, and no record yet.
+    fn start() -> Recorder {
+        let begun = device::start(bench_profile(), &BLANK);
+        Recorder {
+            image: BLANK,
+            receive: [0; 1030],
+            reply: [0; 1030],
+            state: begun.state,
+            tape: Tape::new(),
+        }
+    }
+
+    // A delivery, with its reply if there is one.
+    fn deliver(&mut self, bytes: &[u8]) {
+        let fed = device::feed(
+            bench_profile(),
+            &mut self.image,
+            self.state,
+            &mut self.receive,
+            &mut self.reply,
+            bytes,
+        );
+        self.state = fed.state;
+        self.tape.note(0x48, bytes);
+        if let Some(reply @ [_, ..]) = self.reply.get(..fed.count) {
+            self.tape.note(0x44, reply);
+        }
+    }
+
+    fn reset(&mut self) {
+        let begun = device::reset(bench_profile(), &self.image, self.state);
+        self.state = begun.state;
+        self.tape.note(0x52, b"");
+    }
+}
+
+// A script call by call, of which only the deliveries and the resets are calls; the recording.
+#[tactic(auto, using(recording::proofs::Reading::found_lies))]
+fn take_down(script: &[u8]) -> Tape {
+    let mut recorder = Recorder::start();
+    let mut at = 0;
+    while let Found::Is(direction, part) = recording::record_at(script, at) {
+        match direction {
+            Direction::Host => recorder.deliver(&script[part.from..part.to]),
+            Direction::Device => {}
+            Direction::Reset => recorder.reset(),
+        }
+        at = part.to;
+    }
+    recorder.tape
+}
 
 // What became of a script.
 #[derive(Clone, Copy)]
@@ -44,18 +148,18 @@ fn replays(recording: &[u8], image: &[u8]) -> bool {
 }
 
 // A script on a blank image, driven, taken down and replayed.
-fn outcome_of(alloc: Global, script: &[u8]) -> Result<Outcome, AllocError> {
+fn outcome_of(script: &[u8]) -> Outcome {
     let mut image = BLANK;
     let driven = drives(&mut image, script);
-    let recording = recorder::take_down(alloc, script)?;
-    Ok(Outcome {
-        same: driven && replays(recording.as_slice(), &image),
+    let tape = take_down(script);
+    Outcome {
+        same: driven && replays(tape.written(), &image),
         used: image.iter().filter(|byte| **byte != 0xFF).count(),
-    })
+    }
 }
 
-fn show(rt: &impl Print, alloc: Global, session: Session) -> io::Result<()> {
-    let outcome = outcome_of(alloc, session.script)?;
+fn show(rt: &impl Print, session: Session) -> io::Result<()> {
+    let outcome = outcome_of(session.script);
     println!(rt; "{}", session.title)?;
     if outcome.same {
         println!(rt; "  the image is the replay of the record")?;
@@ -66,28 +170,32 @@ fn show(rt: &impl Print, alloc: Global, session: Session) -> io::Result<()> {
 }
 
 // The script of a write whose packet is cut: what came of it stands between what is before it and a reset.
-fn cut_script(alloc: Global, came: &[u8]) -> Result<Vec<u8>, AllocError> {
-    let mut script = Vec::from_slice(alloc, BEFORE)?;
+fn cut_script(came: &[u8]) -> Tape {
+    let mut script = Tape::new();
+    script.add(BEFORE);
     // A record has a byte at least.
     if !came.is_empty() {
-        recorder::note(&mut script, 0x48, came)?;
+        script.note(0x48, came);
     }
-    script.extend_from_slice(AFTER)?;
-    Ok(script)
+    script.add(AFTER);
+    script
 }
 
 // A reset behind each byte of the packet in turn, none at first and all of it at last.
-fn cut(alloc: Global) -> Result<Vec<Outcome>, AllocError> {
-    let mut outcomes = Vec::new(alloc);
-    for n in 0..=PACKET.len() {
-        let script = cut_script(alloc, &PACKET[..n])?;
-        outcomes.push(outcome_of(alloc, script.as_slice())?)?;
+fn cuts() -> [Outcome; 135] {
+    let mut outcomes = [Outcome {
+        same: false,
+        used: 0,
+    }; 135];
+    for (n, outcome) in outcomes.iter_mut().enumerate() {
+        let came = PACKET.get(..n).unwrap_or(b"");
+        *outcome = outcome_of(cut_script(came).written());
     }
-    Ok(outcomes)
+    outcomes
 }
 
-fn show_cuts(rt: &impl Print, alloc: Global) -> io::Result<()> {
-    let outcomes = cut(alloc)?;
+fn show_cuts(rt: &impl Print) -> io::Result<()> {
+    let outcomes = cuts();
     let same = outcomes.iter().filter(|outcome| outcome.same).count();
     let blank = outcomes.iter().filter(|outcome| outcome.used == 0).count();
     let last = outcomes.last().map_or(0, |outcome| outcome.used);
@@ -100,7 +208,7 @@ fn show_cuts(rt: &impl Print, alloc: Global) -> io::Result<()> {
 
 fn main(rt: HostRuntime) -> io::Result<()> {
     for session in SESSIONS {
-        show(&rt, rt.alloc(), session)?;
+        show(&rt, session)?;
     }
-    show_cuts(&rt, rt.alloc())
+    show_cuts(&rt)
 }
