@@ -178,6 +178,7 @@ class Function:
 
 
 FUNCTION = re.compile(r'^([ \t]*)(pub(?:\(\w+\))? )?(extern "C" )?fn (\w+)', re.M)
+TRAIT = re.compile(r"^pub trait \w+[^{]*\{", re.M)
 CLAUSE = re.compile(r"(?<=\s)(requires|ensures|ghost)\b[^{;]*\{")
 
 
@@ -212,15 +213,49 @@ def header(text, at):
 def functions(crate):
     for path in crate.code():
         text = uncommented(path.read_text(), "//")
+        traits = [(found.start(), closing(text, found.end())) for found in TRAIT.finditer(text)]
         for found in FUNCTION.finditer(text):
             signature, clauses, at = header(text, found.end())
             line_end = text.find("\n", at)
             last = re.compile(r"^%s\}" % found[1], re.M).search(text, at)
             end = line_end if text[at:line_end].rstrip().endswith(("}", ";")) else last.end() if last else len(text)
             length = sum(1 for line in text[found.start():end].splitlines() if line.strip())
-            yield Function(crate.name, path, text.count("\n", 0, found.start(4)) + 1, found[4], bool(found[2]),
+            # what a public trait asks of its impls is public as the trait is
+            public = bool(found[2]) or any(start < found.start() < behind for start, behind in traits)
+            yield Function(crate.name, path, text.count("\n", 0, found.start(4)) + 1, found[4], public,
                            bool(found[3]), signature, clauses, text[at:end], length, found.start(), end,
-                           bool(found[2]) and found[2] != "pub ")
+                           public and found[2] not in (None, "pub "))
+
+
+# ---- what is turned into what
+
+@dataclasses.dataclass
+class Conversion:
+    crate: str
+    path: pathlib.Path
+    line: int
+    name: str  # as it is written: `From<Reason> for u8`
+    promise: str | None  # what its ghost item says
+    start: int  # its place in the file, from `impl` to behind the closing brace
+    end: int
+
+    def where(self):
+        return f"{short(self.path)}:{self.line} impl {self.name}"
+
+
+IMPL = re.compile(r"^impl(?:<[^>{]*>)? (?:\w+::)*((?:From|TryFrom|Display)\b[^{]*?) \{", re.M)
+GIVES = re.compile(r"\bghost (?:from_gives|try_from_gives|output) = \{([^;]*)\};")
+
+
+def conversions(crate):
+    """The impls of From, TryFrom and Display: functions that are called by no name of their own."""
+    for path in crate.code():
+        text = uncommented(path.read_text(), "//")
+        for found in IMPL.finditer(text):
+            end = closing(text, found.end()) + 1
+            gives = GIVES.search(text, found.end(), end)
+            yield Conversion(crate.name, path, text.count("\n", 0, found.start()) + 1, " ".join(found[1].split()),
+                             " ".join(gives[1].split()) if gives else None, found.start(), end)
 
 
 # ---- definitions

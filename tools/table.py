@@ -3,7 +3,7 @@ beside what each public function asks and promises."""
 import collections
 import re
 
-from repository import MODULE, ROOT, brought, definitions, functions, imports, names_in, pairs, short, stop
+from repository import MODULE, ROOT, brought, conversions, definitions, functions, imports, names_in, pairs, short, stop
 
 PROMISES = ROOT / "docs" / "PROMISES.md"
 BEGIN, END = "<!-- generated: tools/promises --write -->", "<!-- end -->"
@@ -20,6 +20,7 @@ class Room:
     def __init__(self, crate):
         self.crate = crate
         self.functions = list(functions(crate))
+        self.conversions = list(conversions(crate))
         self.texts = {path: path.read_text() for path in [*crate.code(), *crate.definitions()]}
         self.definitions = {path: definitions(crate.name, path) for path in crate.definitions()}
         self.callers = collections.defaultdict(list)
@@ -71,7 +72,11 @@ class Room:
 
     def cited(self, one):
         """The definitions that a function's contract cites, directly or through others of the crate."""
-        todo = list(self.known(one.path, names_in(" ".join(" ".join(texts) for texts in one.clauses.values()))))
+        return self.through(one.path, " ".join(" ".join(texts) for texts in one.clauses.values()))
+
+    def through(self, path, text):
+        """The crate's definitions that a text of a file of code cites, directly or through others."""
+        todo = list(self.known(path, names_in(text)))
         found = set()
         while todo:
             where = todo.pop()
@@ -95,6 +100,20 @@ class Room:
         citing = [one for one in self.functions if before and (path, before[-1]) in self.cited(one)]
         return {one.name for one in citing if one.public} or self.above(citing)
 
+    def turned(self, edit):
+        """The conversions that an edit changes: in their code, or in a definition that they promise."""
+        found = []
+        for file, old, _ in pairs(edit):
+            path = self.crate.folder / file
+            at = self.texts.get(path, "").find(old)
+            if at >= 0 and path.suffix == ".rt":
+                found += [one for one in self.conversions if one.path == path and one.start <= at < one.end]
+            elif at >= 0:
+                line = self.texts[path].count("\n", 0, at) + 1
+                before = [one.name for one in self.definitions[path] if one.line <= line]
+                found += [one for one in self.conversions if before and (path, before[-1]) in self.through(one.path, one.promise or "")]
+        return {(one.crate, one.name) for one in found}
+
     def told(self, edit):
         """The functions that an edit's text tells of, as (crate, function)."""
         found = set()
@@ -113,8 +132,8 @@ def named_for(crate, edit):
 
 
 def wrong_versions(crates):
-    """The edits of each public function, the edits of none, and what is wrong with a `# for:`. An edit that names functions is for
-    these, whatever its text tells."""
+    """The edits of each public function or conversion, the edits of none, and what is wrong with a `# for:`. An edit that names
+    functions is for these, whatever its text tells, and for the conversions that it changes."""
     rooms = {crate.name: Room(crate) for crate in crates.values()}
     public = {(one.crate, one.name) for room in rooms.values() for one in room.functions if one.public}
     found, lost, wrong = collections.defaultdict(list), [], []
@@ -123,7 +142,7 @@ def wrong_versions(crates):
             named = named_for(crate, edit)
             wrong += [f"NOT THERE   public function {owner}::{name}, which {short(edit)} is for"
                       for owner, name in sorted(named - public)]
-            owners = named or rooms[crate.name].told(edit)
+            owners = (named or rooms[crate.name].told(edit)) | rooms[crate.name].turned(edit)
             for owner in owners:
                 found[owner].append(edit)
             if not owners:
@@ -164,7 +183,13 @@ def rows_of(crates, edits):
             for one in sorted(functions(crate), key=lambda one: (one.path.name != "lib.rt", one.path, one.line)) if one.public}
 
 
-def written(rows, lost):
+def turning_of(crates, edits):
+    """The row of every conversion of a library, by (crate, its name)."""
+    return {(crate.name, one.name): f"| `{one.name}` | {crate.name} | {cell([one.promise or ''])} | {labels(crate.name, edits[crate.name, one.name])} |"
+            for crate in crates.values() if not crate.is_program for one in conversions(crate)}
+
+
+def written(rows, turning, lost):
     """The text between the marks."""
     text, before = [], None
     for (crate, _), line in rows.items():
@@ -172,9 +197,12 @@ def written(rows, lost):
             text += ["", f"### {crate}", "", "| Function | Asks | Promise | Wrong versions that are refused |", "|---|---|---|---|"]
             before = crate
         text.append(line)
+    text += ["", "### Conversions", "",
+             "What an impl of `From`, `TryFrom` or `Display` promises stands in its `from_gives`, `try_from_gives` or `output`, and callers know it as",
+             "they know a function's `ensures`.", "", "| Impl | Crate | Promise | Wrong versions that are refused |", "|---|---|---|---|", *turning.values()]
     if lost:
         text += ["", "### Edits of no function", "",
-                 f"Laws refuse them, or the text that a `Display` states; no contract of their crate cites what they change: {labels('', lost)}."]
+                 f"Laws refuse them; no contract of their crate cites what they change: {labels('', lost)}."]
     return "\n".join([*text, "", ""])
 
 
@@ -187,24 +215,29 @@ def parts(text):
     return before, between, behind
 
 
-def write(rows, lost):
+def write(rows, turning, lost):
     before, _, behind = parts(PROMISES.read_text())
-    PROMISES.write_text(f"{before}{BEGIN}\n{written(rows, lost)}{END}{behind}")
+    PROMISES.write_text(f"{before}{BEGIN}\n{written(rows, turning, lost)}{END}{behind}")
 
 
-def compare(rows, lost):
+def compare(rows, turning, lost):
     """What the tables have otherwise than the source."""
+    text = written(rows, turning, lost)
     between, there, crate = parts(PROMISES.read_text())[1], {}, None
     for line in between.splitlines():
         heading, function = re.match(r"### (\w+)$", line), re.match(r"\| `(\w+)` \|", line)
+        conversion = re.match(r"\| `([^`]+ for [^`]+)` \| (\w+) \|", line)
         if heading:
             crate = heading[1]
         elif function:
             there[crate, function[1]] = line
+        elif conversion:
+            there[conversion[2], conversion[1]] = line
+    rows = rows | turning
     wrong = [f"NO LINE     {crate}::{name}" for crate, name in rows.keys() - there.keys()]
     wrong += [f"NOT THERE   function {crate}::{name}, which has a line" for crate, name in there.keys() - rows.keys()]
     wrong += [f"OTHER LINE  {crate}::{name} has in the source: {rows[crate, name]}"
               for crate, name in rows.keys() & there.keys() if rows[crate, name] != there[crate, name]]
-    if not wrong and between != written(rows, lost):
+    if not wrong and between != text:
         wrong.append("OTHER LINE  the order, a heading or the edits of no function")
     return sorted(wrong)

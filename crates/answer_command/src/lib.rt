@@ -125,7 +125,9 @@ fn grant(
     }
 }
 
-// What a complete command is answered.
+// What a complete command is answered. A hint, and no more: put into the loop over bytes, it has the compiler keep the state there in pieces, and a byte that
+// is skipped costs a quarter more.
+#[inline(never)]
 pub fn answer_command(
     profile: Profile,
     image: &[u8],

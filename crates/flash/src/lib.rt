@@ -87,6 +87,15 @@ pub fn erase(image: &mut [u8], profile: Profile, sad: u32, ead: u32)
     );
 }
 
+// A part becomes as many other bytes.
+#[tactic(auto, using(numbers::proofs::Copied::copied))]
+fn overwrite(part: &mut [u8], bytes: &[u8])
+    requires { length part.old ≡ length bytes.now }
+    ensures { part.new ≡ bytes.now }
+{
+    numbers::copy(bytes, part);
+}
+
 // The bytes go to the addresses from `address` on.
 pub fn store(image: &mut [u8], profile: Profile, address: u32, bytes: &[u8])
     ensures { image.new ≡ stored (areas_of profile) address bytes.now image.old }
@@ -95,7 +104,7 @@ pub fn store(image: &mut [u8], profile: Profile, address: u32, bytes: &[u8])
     let end = start + bytes.len();
     each_part(image, &profile, start, end, |part, at| {
         let from = at - start;
-        part.copy_from_slice(&bytes[from..from + part.len()]);
+        overwrite(part, &bytes[from..from + part.len()]);
     });
 }
 

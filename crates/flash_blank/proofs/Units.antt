@@ -1,9 +1,8 @@
 -- The test whether all bytes are blank, and the search behind a front that is. Assumes nothing.
-use Rattle.std.proofs.Common.{Bool, true, false, cond, ◌&&◌, List, [], ◌∷◌, ◌++◌, ◌≡◌, refl, ap, ◌∙◌, ℕ, zero, suc, ◌+◌, ◌-◌, ◌/◌, ◌≤◌, ◌<◌, ◌*◌, ◌%◌, min, max, mul-le-mul_right, arith, sym, length-drop, length-append, length, length-take, take_all, take, drop, drop_of_length-le, drop-cons, drop-drop, get_or, get_or-take, get_or-drop, eqb, ne_eqb, fold, subst, add-one, add-mul, one-mul, div-mul-le_self}
+use Rattle.std.proofs.Common.{Bool, true, false, cond, ◌&&◌, List, [], ◌∷◌, ◌++◌, ◌≡◌, refl, ap, ◌∙◌, ℕ, zero, suc, ◌+◌, ◌-◌, ◌/◌, ◌≤◌, ◌<◌, ◌*◌, max, arith, sym, length-drop, length-append, length, length-take, take_all, take, drop, drop_of_length-le, drop-cons, drop-drop, get_or, get_or-take, get_or-drop, eqb, ne_eqb, fold, subst, add-one, add-mul, one-mul, div-mul-le_self}
 use Rattle.std.specs.Prelude.{Option, Some, None}
-use Rattle.std.proofs.lemmas.Grind.{div_ceil_times}
 use Rattle.std.proofs.Math.Seq.{take-add, take-append_seam, drop-append_seam}
-use native.Mathlib.Nat.{div-eq_of_lt-le, lt-div-mul-add}
+use native.Mathlib.Nat.{div-eq_of_lt-le, le-mul_of_pos_right, lt-div-mul-add}
 use Rattle.flash_blank.specs.Blank.{searched_from, searched, all_blank}
 
 -- one byte after the other
@@ -116,15 +115,6 @@ module _ (unit from n i : ℕ) (l : List ℕ) (p : Left unit l (from + i)) (h : 
 pub unit_of : (place step : ℕ) → 0 < step → (place / step * step ≤ place) × (place < (place / step + 1) * step)
 unit_of place step p = (div-mul-le_self place step, rw (add-mul, one-mul) (lt-div-mul-add {a = place} p))
 
--- the units of n bytes: each one starts among them, and together they hold all
-module _ (number step n : ℕ) (p : 0 < step) where
-  pub unit_starts : number < n / step + min 1 (n % step) → number * step < n
-  unit_starts h =
-      let m : (number + 1) * step ≤ (n / step + min 1 (n % step)) * step = mul-le-mul_right step (omega arith) in
-      let e : (number + 1) * step ≡ number * step + step = rw (add-mul, one-mul) refl in
-      omega (arith, div_ceil_times n step p)
-
-  pub units_hold : n / step + min 1 (n % step) ≤ number → n ≤ number * step
-  units_hold h =
-      let m : (n / step + min 1 (n % step)) * step ≤ number * step = mul-le-mul_right step h in
-      omega (arith, div_ceil_times n step p)
+-- as many units as there are bytes hold all of them
+pub units_hold : (number step n : ℕ) → 0 < step → n ≤ number → n ≤ number * step
+units_hold number step n p h = omega (arith, le-mul_of_pos_right {m = step} number p)

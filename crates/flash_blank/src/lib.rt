@@ -41,16 +41,21 @@ fn passed(target: &[u8]) -> usize
 
 // The number of the first unit that holds a byte other than FFh. What is blank at the front is passed quickly, whatever the unit;
 // so the search, which starts there and stops at the first other byte, has few to look at before it. Nested loops, and a label that
-// leaves both, since the scope decides this form: `position` would be plainer.
-#[tactic(auto, using(crate::proofs::Units::part_next, crate::proofs::Units::left_none, crate::proofs::Units::unit_starts, crate::proofs::Units::units_hold))]
+// leaves both, since the scope decides this form: `position` would be plainer. A division is a good part of a short call's time,
+// so there is one: how many units there are is not asked. They are no more than the bytes, and end where the bytes do.
+#[tactic(auto, using(crate::proofs::Units::part_next, crate::proofs::Units::left_none, crate::proofs::Units::units_hold))]
 pub fn first_dirty(target: &[u8], unit: usize) -> Option<usize>
     ensures { result ≡ searched unit target.now }
 {
     let step = unit.max(1);
     let front = passed(target);
+    let first = front / step;
+    let mut start = first * step;
     let mut found = None;
-    'units: for number in front / step..target.len().div_ceil(step) {
-        let start = number * step;
+    'units: for number in first..target.len() {
+        if start == target.len() {
+            break;
+        }
         let end = start + step.min(target.len() - start);
         let from = start.max(front);
         for byte in &target[from..end] {
@@ -59,6 +64,7 @@ pub fn first_dirty(target: &[u8], unit: usize) -> Option<usize>
                 break 'units;
             }
         }
+        start = end;
     }
     found
 }

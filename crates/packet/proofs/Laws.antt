@@ -19,6 +19,10 @@ sum_fold t (b ∷ bs) h =
 pub sum_all : (l : List ℕ) → fold (λ t b. (t + b) % 256) 0 l ≡ sum_of l % 256
 sum_all l = let z : 0 + sum_of l ≡ sum_of l = omega arith in sum_fold 0 l (omega arith) ∙ ap (λ (n : ℕ). n % 256) z
 
+-- and over a list that is the same
+pub summed : {t : ℕ} {some all : List ℕ} → t ≡ sum_of some % 256 → some ≡ all → t ≡ sum_of all % 256
+summed e h = e ∙ ap (λ (l : List ℕ). sum_of l % 256) h
+
 -- from what cannot be, anything
 pub impossible : {A : Type 0} → ◌≡◌ {A = ℕ} 0 1 → A
 impossible z = absurd (omega arith)

@@ -8,7 +8,8 @@ use lib.ListN.{length, take, drop, get_or}
 use lib.Dec.{leb, eqb}
 use lib.Seq.{drop-cons}
 use borrow.Author.Tests.{le-leb, eq-eqb, ne_eqb, eqb-true}
-use Rattle.numbers.specs.Bytes.{field, number_at, value_at}
+use Rattle.numbers.specs.Bytes.{field, number}
+use Rattle.numbers.proofs.Laws.{number_two}
 use Rattle.numbers.specs.Same.{same}
 use Rattle.verdict.specs.Check.{first_fault}
 use Rattle.recording.specs.declared.Direction.{Direction}
@@ -18,7 +19,7 @@ use Rattle.recording.specs.declared.Found.{Found}
 use Rattle.recording.specs.declared.Found.TheVariants.{Is, End, Refused}
 use Rattle.recording.specs.Format.{mark, direction_number, directed_in, directed_of, length_allowed}
 use Rattle.std.specs.Prelude.{Some, None}
-use Rattle.std.specs.Option.{unwrap_or}
+use Rattle.std.specs.Int.{w16, from_be_bytes}
 use Rattle.recording.specs.Recording.{count_at, direction_at, part_at, length_checks, read_checks, found_by, found_at}
 
 -- the directions and their numbers
@@ -45,23 +46,30 @@ directed_number n d e = known_in (Host ∷ Device ∷ Reset ∷ []) n d e
 pub direction_once : (d e : Direction) → direction_number d ≡ direction_number e → d ≡ e
 direction_once d e h = let k : Some d ≡ Some e = sym (directed_back d) ∙ ap directed_of h ∙ directed_back e in cc
 
--- the length, read as the code reads it
-pub count_is : (s : List ℕ) (at : ℕ) → at + 5 ≤ length s → unwrap_or (number_at 2 s (at + 3)) 0 ≡ count_at s at
-unfolding value_at count_at
-count_is s at h =
-    let t : leb (at + 3 + 2) (length s) ≡ true = le-leb (at + 3 + 2) (length s) (omega arith) in
-    rw t refl
-
--- a mark that is whole, byte by byte
-pub mark_is : (s : List ℕ) (at : ℕ) → at + 2 ≤ length s → eqb (get_or s at 0) 0x52 && eqb (get_or s (at + 1) 0) 0x4C ≡ same (field 2 at s) mark
-unfolding same
-mark_is s at h =
+-- two bytes that stand side by side
+field_two : (s : List ℕ) (at : ℕ) → at + 2 ≤ length s → get_or s at 0 ∷ get_or s (at + 1) 0 ∷ [] ≡ field 2 at s
+field_two s at h =
     let one : suc at ≡ at + 1 = omega arith in
     let rest : drop (suc at) s ≡ get_or s (at + 1) 0 ∷ drop (suc (at + 1)) s =
     ap (λ (i : ℕ). drop i s) one ∙ drop-cons s (at + 1) 0 (omega arith) in
     let e : drop at s ≡ get_or s at 0 ∷ get_or s (at + 1) 0 ∷ drop (suc (at + 1)) s =
     drop-cons s at 0 (omega arith) ∙ ap (λ (l : List ℕ). get_or s at 0 ∷ l) rest in
-    both (eqb (get_or s at 0) 0x52) (eqb (get_or s (at + 1) 0) 0x4C) ∙ ap (λ (l : List ℕ). same (take 2 l) mark) (sym e)
+    rw e refl
+
+-- the length, read as the code reads it
+pub count_is : (s : List ℕ) (at : ℕ) → at + 5 ≤ length s → from_be_bytes w16 (get_or s (at + 3) 0 ∷ get_or s (at + 4) 0 ∷ []) ≡ count_at s at
+unfolding count_at
+count_is s at h =
+    let next : at + 3 + 1 ≡ at + 4 = omega arith in
+    number_two (get_or s (at + 3) 0 ∷ get_or s (at + 4) 0 ∷ []) refl
+    ∙ ap (λ (i : ℕ). number (get_or s (at + 3) 0 ∷ get_or s i 0 ∷ [])) (sym next)
+    ∙ ap number (field_two s (at + 3) (omega arith))
+
+-- a mark that is whole, byte by byte
+pub mark_is : (s : List ℕ) (at : ℕ) → at + 2 ≤ length s → eqb (get_or s at 0) 0x52 && eqb (get_or s (at + 1) 0) 0x4C ≡ same (field 2 at s) mark
+unfolding same
+mark_is s at h =
+    both (eqb (get_or s at 0) 0x52) (eqb (get_or s (at + 1) 0) 0x4C) ∙ ap (λ (l : List ℕ). same l mark) (field_two s at h)
   where
     both : (a b : Bool) → a && b ≡ a && (b && true)
     both true true = refl

@@ -184,12 +184,13 @@ fn is_marked(recording: &[u8], at: usize) -> bool
     recording[at + 1] == 0x4C
 }
 
-// The number of bytes behind a head that is whole.
+// The number of bytes behind a head that is whole: its place is known, so no test is owed, and `numbers::read` would make two.
+#[tactic(auto, using(crate::proofs::Laws::count_is))]
 fn count_at(recording: &[u8], at: usize) -> usize
     requires { at + 5 ≤ length recording.now }
     ensures { result ≡ count_at recording.now at }
 {
-    numbers::read::<u16>(recording, at + 3).unwrap_or(0) as usize
+    u16::from_be_bytes([recording[at + 3], recording[at + 4]]) as usize
 }
 
 // The record at a place, from its length on.
@@ -217,7 +218,8 @@ fn directed_at(recording: &[u8], at: usize, direction: Direction) -> Found
     )
 }
 
-// The record at a place.
+// The record at a place. A hint, and no more: called, it costs a walk over a recording half its speed.
+#[inline]
 pub fn record_at(recording: &[u8], at: usize) -> Found
     ensures { result ≡ found_at recording.now at }
 {

@@ -27,17 +27,12 @@ fn print_refusal(rt: &impl Print, refusal: Refusal) -> io::Result<()> {
 }
 
 impl Bench {
-    // Blank, and switched on.
-    fn start(rt: &impl Print) -> io::Result<Bench> {
-        let image = [0xFF; 65792];
-        let begun = device::start(bench_profile(), &image);
-        print_refusal(rt, begun.refusal)?;
-        Ok(Bench {
-            image,
-            receive: [0; 1030],
-            reply: [0; 1030],
-            state: begun.state,
-        })
+    // Erased, and switched on.
+    fn start(&mut self, rt: &impl Print) -> io::Result<()> {
+        flash::erase_all(&mut self.image);
+        let begun = device::start(bench_profile(), &self.image);
+        self.state = begun.state;
+        print_refusal(rt, begun.refusal)
     }
 
     fn reset(&mut self, rt: &impl Print) -> io::Result<()> {
@@ -47,12 +42,13 @@ impl Bench {
         print_refusal(rt, again.refusal)
     }
 
-    // Sends bytes, again and again what a reply left unread, and prints each reply.
+    // Sends bytes, again and again what a reply left unread, and prints each reply. No delivery below has more than four replies, and a device
+    // that takes its bytes one by one leaves some; a turn that has nothing to send changes nothing.
     fn send(&mut self, rt: &impl Print, title: &str, bytes: &[u8]) -> io::Result<()> {
         println!(rt; "{title}")?;
         let mut unread = bytes;
         let mut silent = true;
-        while !unread.is_empty() {
+        for _ in 0..4 {
             let fed = device::feed(
                 bench_profile(),
                 &mut self.image,
@@ -67,11 +63,7 @@ impl Bench {
                 println!(rt; "  {}", Excerpt(reply))?;
                 silent = false;
             }
-            // Only a refused call takes nothing.
-            match unread.get(fed.consumed..) {
-                Some(rest) if 0 < fed.consumed => unread = rest,
-                _ => break,
-            }
+            unread = unread.get(fed.consumed..).unwrap_or(b"");
         }
         if !unread.is_empty() {
             println!(rt; "  (bytes left unread)")?;
@@ -84,9 +76,9 @@ impl Bench {
 }
 
 // One session on a blank image.
-fn play(rt: &impl Print, session: Session) -> io::Result<()> {
+fn play(rt: &impl Print, bench: &mut Bench, session: Session) -> io::Result<()> {
     println!(rt; "{}", session.title)?;
-    let mut bench = Bench::start(rt)?;
+    bench.start(rt)?;
     for line in session.lines {
         match *line {
             Line::Reset => bench.reset(rt)?,
@@ -97,8 +89,15 @@ fn play(rt: &impl Print, session: Session) -> io::Result<()> {
 }
 
 fn main(rt: HostRuntime) -> io::Result<()> {
+    // One for all sessions: it is large, and moving it costs more than a session.
+    let mut bench = Bench {
+        image: [0; 65792],
+        receive: [0; 1030],
+        reply: [0; 1030],
+        state: state::zero(),
+    };
     for session in SESSIONS {
-        play(&rt, session)?;
+        play(&rt, &mut bench, session)?;
     }
     Ok(())
 }

@@ -39,6 +39,10 @@ impl Tape {
         }
     }
 
+    fn clear(&mut self) {
+        self.length = 0;
+    }
+
     fn add(&mut self, bytes: &[u8]) {
         self.length = append(&mut self.bytes, self.length, bytes);
     }
@@ -66,16 +70,23 @@ struct Recorder {
 }
 
 impl Recorder {
-    // A blank device that was switched on, and no record yet.
-    fn start() -> Recorder {
-        let begun = device::start(bench_profile(), &BLANK);
+    // One for all scripts: it is large, and moving it costs more than a script.
+    fn new() -> Recorder {
         Recorder {
             image: BLANK,
             receive: [0; 1030],
             reply: [0; 1030],
-            state: begun.state,
+            state: state::zero(),
             tape: Tape::new(),
         }
+    }
+
+    // A blank device that was switched on, and no record yet.
+    fn start(&mut self) {
+        self.image.fill(0xFF);
+        let begun = device::start(bench_profile(), &self.image);
+        self.state = begun.state;
+        self.tape.clear();
     }
 
     // A delivery, with its reply if there is one.
@@ -102,10 +113,10 @@ impl Recorder {
     }
 }
 
-// A script call by call, of which only the deliveries and the resets are calls; the recording.
+// A script call by call, of which only the deliveries and the resets are calls; the recording is the recorder's tape.
 #[tactic(auto, using(recording::proofs::Reading::found_lies))]
-fn take_down(script: &[u8]) -> Tape {
-    let mut recorder = Recorder::start();
+fn take_down(recorder: &mut Recorder, script: &[u8]) {
+    recorder.start();
     let mut at = 0;
     while let Found::Is(direction, part) = recording::record_at(script, at) {
         match direction {
@@ -115,7 +126,6 @@ fn take_down(script: &[u8]) -> Tape {
         }
         at = part.to;
     }
-    recorder.tape
 }
 
 // What became of a script.
@@ -148,18 +158,18 @@ fn replays(recording: &[u8], image: &[u8]) -> bool {
 }
 
 // A script on a blank image, driven, taken down and replayed.
-fn outcome_of(script: &[u8]) -> Outcome {
+fn outcome_of(recorder: &mut Recorder, script: &[u8]) -> Outcome {
     let mut image = BLANK;
     let driven = drives(&mut image, script);
-    let tape = take_down(script);
+    take_down(recorder, script);
     Outcome {
-        same: driven && replays(tape.written(), &image),
+        same: driven && replays(recorder.tape.written(), &image),
         used: image.iter().filter(|byte| **byte != 0xFF).count(),
     }
 }
 
-fn show(rt: &impl Print, session: Session) -> io::Result<()> {
-    let outcome = outcome_of(session.script);
+fn show(rt: &impl Print, recorder: &mut Recorder, session: Session) -> io::Result<()> {
+    let outcome = outcome_of(recorder, session.script);
     println!(rt; "{}", session.title)?;
     if outcome.same {
         println!(rt; "  the image is the replay of the record")?;
@@ -181,21 +191,26 @@ fn cut_script(came: &[u8]) -> Tape {
     script
 }
 
+// How many cuts the packet has: before its first byte, and behind each.
+const CUTS: usize = 135;
+
+const _: () = prove!(CUTS == PACKET.len() + 1);
+
 // A reset behind each byte of the packet in turn, none at first and all of it at last.
-fn cuts() -> [Outcome; 135] {
+fn cuts(recorder: &mut Recorder) -> [Outcome; CUTS] {
     let mut outcomes = [Outcome {
         same: false,
         used: 0,
-    }; 135];
+    }; CUTS];
     for (n, outcome) in outcomes.iter_mut().enumerate() {
         let came = PACKET.get(..n).unwrap_or(b"");
-        *outcome = outcome_of(cut_script(came).written());
+        *outcome = outcome_of(recorder, cut_script(came).written());
     }
     outcomes
 }
 
-fn show_cuts(rt: &impl Print) -> io::Result<()> {
-    let outcomes = cuts();
+fn show_cuts(rt: &impl Print, recorder: &mut Recorder) -> io::Result<()> {
+    let outcomes = cuts(recorder);
     let same = outcomes.iter().filter(|outcome| outcome.same).count();
     let blank = outcomes.iter().filter(|outcome| outcome.used == 0).count();
     let last = outcomes.last().map_or(0, |outcome| outcome.used);
@@ -207,8 +222,9 @@ fn show_cuts(rt: &impl Print) -> io::Result<()> {
 }
 
 fn main(rt: HostRuntime) -> io::Result<()> {
+    let mut recorder = Recorder::new();
     for session in SESSIONS {
-        show(&rt, session)?;
+        show(&rt, &mut recorder, session)?;
     }
-    show_cuts(&rt)
+    show_cuts(&rt, &mut recorder)
 }

@@ -1,5 +1,5 @@
 -- `flash_blank::first_dirty` meets its contract. The search starts behind the front that is blank; the loops' invariant: no byte passed changes what the search comes to. Assumes nothing.
-use Rattle.std.proofs.Common.{arith, refl, sym, ◌≡◌, ◌<◌, ◌≤◌, ◌+◌, ◌*◌, ◌/◌, ℕ, length, length-take, length-drop, min, max, subst, add-mul, one-mul}
+use Rattle.std.proofs.Common.{arith, refl, sym, ◌≡◌, ◌<◌, ◌≤◌, ◌+◌, ◌*◌, ◌/◌, ℕ, length-take, length-drop, max, subst, add-mul, one-mul}
 use Rattle.flash_blank.proofs.Units.{Left, left_behind, part_found, unit_of}
 use Rattle.flash_blank.proofs.first_dirty.Goals as goal
 
@@ -9,9 +9,10 @@ units-init c =
     let step = c.max-step.result in
     let front = c.passed-front.result in
     let u = unit_of front step (omega arith) in
-    let e : front ≡ max (min (front / step * step) (length l)) front = omega arith in record {
+    let e : front ≡ max (front / step * step) front = omega arith in record {
       none = refl;
       reached = u.1;
+      at = omega arith;
       left = subst (Left c.args.unit l) e (left_behind c.args.unit front l c.passed-front.ensures.0 c.passed-front.ensures.1);
     }
 

@@ -12,5 +12,6 @@ abbrev pub invariant-units : goal.invariant-units
 invariant-units l = record {
   none : l.found ≡ None;
   reached : l.front < (l.number + 1) * l.step;
-  left : Left l.unit l.target (max (min (l.number * l.step) (length l.target)) l.front);
+  at : l.start ≡ min (l.number * l.step) (length l.target);
+  left : Left l.unit l.target (max l.start l.front);
 }
