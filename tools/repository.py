@@ -235,7 +235,7 @@ class Conversion:
     path: pathlib.Path
     line: int
     name: str  # as it is written: `From<Reason> for u8`
-    promise: str | None  # what its ghost item says
+    promise: str  # what its ghost items say; nothing where it has none
     start: int  # its place in the file, from `impl` to behind the closing brace
     end: int
 
@@ -243,19 +243,26 @@ class Conversion:
         return f"{short(self.path)}:{self.line} impl {self.name}"
 
 
-IMPL = re.compile(r"^impl(?:<[^>{]*>)? (?:\w+::)*((?:From|TryFrom|Display)\b[^{]*?) \{", re.M)
-GIVES = re.compile(r"\bghost (?:from_gives|try_from_gives|output) = \{([^;]*)\};")
+IMPL = re.compile(r"^impl(?:<[^>{]*>)? (?:\w+::)*((\w+)\b[^{]*? for [^{]*?) \{", re.M)
+GIVES = re.compile(r"\bghost (from_gives|try_from_gives|output) = \{([^;]*)\};")
+OWN = re.compile(r"\bghost (\w+) = \{([^;]*)\};")
 
 
 def conversions(crate):
-    """The impls of From, TryFrom and Display: functions that are called by no name of their own."""
-    for path in crate.code():
-        text = uncommented(path.read_text(), "//")
+    """The impls of From, TryFrom and Display, functions that are called by no name of their own, and those of the crate's public traits,
+    whose ghost items say for each type what the trait's functions promise."""
+    texts = {path: uncommented(path.read_text(), "//") for path in crate.code()}
+    own = {name for text in texts.values() for name in re.findall(r"^pub trait (\w+)", text, re.M)}
+    for path, text in texts.items():
         for found in IMPL.finditer(text):
             end = closing(text, found.end()) + 1
-            gives = GIVES.search(text, found.end(), end)
-            yield Conversion(crate.name, path, text.count("\n", 0, found.start()) + 1, " ".join(found[1].split()),
-                             " ".join(gives[1].split()) if gives else None, found.start(), end)
+            if found[2] in own:
+                says = [f"{name} = {' '.join(what.split())}" for name, what in OWN.findall(text, found.end(), end)]
+            elif found[2] in ("From", "TryFrom", "Display"):
+                says = [" ".join(what.split()) for _, what in GIVES.findall(text, found.end(), end)]
+            else:
+                continue
+            yield Conversion(crate.name, path, text.count("\n", 0, found.start()) + 1, " ".join(found[1].split()), "; ".join(says), found.start(), end)
 
 
 # ---- definitions

@@ -111,7 +111,7 @@ class Room:
             elif at >= 0:
                 line = self.texts[path].count("\n", 0, at) + 1
                 before = [one.name for one in self.definitions[path] if one.line <= line]
-                found += [one for one in self.conversions if before and (path, before[-1]) in self.through(one.path, one.promise or "")]
+                found += [one for one in self.conversions if before and (path, before[-1]) in self.through(one.path, one.promise)]
         return {(one.crate, one.name) for one in found}
 
     def told(self, edit):
@@ -185,7 +185,7 @@ def rows_of(crates, edits):
 
 def turning_of(crates, edits):
     """The row of every conversion of a library, by (crate, its name)."""
-    return {(crate.name, one.name): f"| `{one.name}` | {crate.name} | {cell([one.promise or ''])} | {labels(crate.name, edits[crate.name, one.name])} |"
+    return {(crate.name, one.name): f"| `{one.name}` | {crate.name} | {cell([one.promise])} | {labels(crate.name, edits[crate.name, one.name])} |"
             for crate in crates.values() if not crate.is_program for one in conversions(crate)}
 
 
@@ -199,7 +199,7 @@ def written(rows, turning, lost):
         text.append(line)
     text += ["", "### Conversions", "",
              "What an impl of `From`, `TryFrom` or `Display` promises stands in its `from_gives`, `try_from_gives` or `output`, and callers know it as",
-             "they know a function's `ensures`.", "", "| Impl | Crate | Promise | Wrong versions that are refused |", "|---|---|---|---|", *turning.values()]
+             "they know a function's `ensures`. What the functions of a trait promise for a type goes by the ghost items of its impl.", "", "| Impl | Crate | Promise | Wrong versions that are refused |", "|---|---|---|---|", *turning.values()]
     if lost:
         text += ["", "### Edits of no function", "",
                  f"Laws refuse them; no contract of their crate cites what they change: {labels('', lost)}."]
